@@ -1,5 +1,5 @@
 -- A document makes something of the first poke of its process, or the process refuses that: the coordinator has acted, which does nothing itself.
-use Rattle.coord.proofs.Asides.{IsPlain, made_plain, off, plain_more, refused_plain, one_goes}
+use Rattle.coord.proofs.Asides.{IsPlain, made_plain, off, one_goes, plain_more, refused_plain, start_lasts}
 use Rattle.coord.specs.Standing.{HasActed, IsOpenTo}
 use Rattle.coord.specs.declared.coordinator.Coordinator.{Coordinator}
 use Rattle.coord.proofs.Idle.{alone_acts, found_now, stands_then, telling_now}
@@ -41,14 +41,14 @@ module _ (e : InEvent) (c : Coordinator) (open_ : IsOpenTo e c) (proc : ProcId) 
     made_acts what makes no_edit own =
         alone_acts e c open_ (rows.Made proc (made_for view poke.req what)) own (made_plain e c open_.in_ proc (made_for view poke.req what) event own) tt tt
         (own_slots e c.slots.entries open_.in_.uncut (rows.Made proc (made_for view poke.req what)) own tt open_.slots)
-        (acts.made_acts e c.tables c.queue c.blame.entries open_.in_.stands.stands open_.in_.room proc poke first d view found has runs what makes no_edit open_.in_.uncut by event own)
+        (acts.made_acts e c.tables c.queue c.blame.entries open_.in_.stands.stands (start_lasts e c open_.in_) open_.in_.room proc poke first d view found has runs what makes no_edit open_.in_.uncut by event own)
 
     -- it edits itself, which is applied at once
     pub edit_acts : made_by view poke.action ≡ Some whats.Edit → e.own ≡ rows.Made proc (made_for view poke.req whats.Edit) → HasActed e (rows.Applied poke.req changes.Edit ∷ []) c
     edit_acts makes own =
         record {
           stands =
-              stands_then e c open_.in_ out its.stands at
+              stands_then e c open_.in_ out its.stands its.lasts at
               (running_over e out [] (tt, tt) goes (found_now e c open_ (rows.Made proc made) own accepted tt))
               (telling_over e out [] goes of_coord (telling_now e c open_ (rows.Made proc made) own accepted tt))
               (rows_slots e c.slots.entries out [] of_coord (own_slots e c.slots.entries open_.in_.uncut (rows.Made proc made) own tt open_.slots));
@@ -63,9 +63,9 @@ module _ (e : InEvent) (c : Coordinator) (open_ : IsOpenTo e c) (proc : ProcId) 
         out : List RowKind
         out = rows.Applied poke.req changes.Edit ∷ []
 
-        its : tab.HasActed tab.none_in_check e (rows.Applied poke.req changes.Edit ∷ []) c.tables c.queue c.blame.entries
+        its : tab.HasIdled tab.none_in_check e (rows.Applied poke.req changes.Edit ∷ []) c.tables c.queue c.blame.entries
         its =
-            edits.edit_acts e c.tables c.queue c.blame.entries open_.in_.stands.stands open_.in_.room proc poke first d view found has runs makes open_.in_.uncut by event own
+            edits.edit_acts e c.tables c.queue c.blame.entries open_.in_.stands.stands (start_lasts e c open_.in_) open_.in_.room proc poke first d view found has runs makes (off e c open_.in_ poke.req) open_.in_.uncut by event own
 
         accepted : IsPlain e []
         accepted = made_plain e c open_.in_ proc (made_for view poke.req whats.Edit) event own
@@ -98,11 +98,11 @@ module _ (e : InEvent) (c : Coordinator) (open_ : IsOpenTo e c) (proc : ProcId) 
     no_address_acts none own =
         alone_acts e c open_ (rows.Refused poke.req denials.BadAddress) own (refused_plain e c open_.in_ poke.req denials.BadAddress own) tt tt
         (own_slots e c.slots.entries open_.in_.uncut (rows.Refused poke.req denials.BadAddress) own tt open_.slots)
-        (acts.refused_acts e c.tables c.queue c.blame.entries open_.in_.stands.stands open_.in_.room proc poke first denials.BadAddress open_.in_.uncut by event own (acts.no_address_passes e c.tables c.queue c.blame.entries open_.in_.stands.stands open_.in_.room proc poke first d view found has runs none))
+        (acts.refused_acts e c.tables c.queue c.blame.entries open_.in_.stands.stands (start_lasts e c open_.in_) open_.in_.room proc poke first denials.BadAddress open_.in_.uncut by event own (acts.no_address_passes e c.tables c.queue c.blame.entries open_.in_.stands.stands (start_lasts e c open_.in_) open_.in_.room proc poke first d view found has runs none))
 
   -- the poked document is gone, or doesn't run
   pub no_document_acts : is_running e.start poke.doc ≡ false → e.own ≡ rows.Refused poke.req denials.NoDocument → HasActed e [] c
   no_document_acts stopped own =
       alone_acts e c open_ (rows.Refused poke.req denials.NoDocument) own (refused_plain e c open_.in_ poke.req denials.NoDocument own) tt tt
       (own_slots e c.slots.entries open_.in_.uncut (rows.Refused poke.req denials.NoDocument) own tt open_.slots)
-      (acts.refused_acts e c.tables c.queue c.blame.entries open_.in_.stands.stands open_.in_.room proc poke first denials.NoDocument open_.in_.uncut by event own (acts.no_document_passes e c.tables c.queue c.blame.entries open_.in_.stands.stands open_.in_.room proc poke first stopped))
+      (acts.refused_acts e c.tables c.queue c.blame.entries open_.in_.stands.stands (start_lasts e c open_.in_) open_.in_.room proc poke first denials.NoDocument open_.in_.uncut by event own (acts.no_document_passes e c.tables c.queue c.blame.entries open_.in_.stands.stands (start_lasts e c open_.in_) open_.in_.room proc poke first stopped))

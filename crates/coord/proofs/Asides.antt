@@ -29,8 +29,9 @@ use Rattle.tab_ids.specs.declared.DocId.{DocId}
 use Rattle.tab_ids.specs.declared.ProcId.{ProcId}
 use Rattle.tab_ids.specs.declared.ReqId.{ReqId}
 use Rattle.tab_ids.specs.declared.StateId.{StateId}
-use Rattle.tab_stands.specs.Delivering.{IsDelivery}
-use Rattle.tab_stands.specs.Standing.{StartsUnasked}
+use Rattle.tab_stands.specs.Delivering.{IsDelivery, IsSeenDelivery}
+use Rattle.tab_stands.specs.Standing as tab
+use Rattle.tab_stands.specs.Standing.{HasRoomFor, LastsInLog, StartsUnasked, seen_start}
 use Rattle.entry_store.proofs.StepBounds.{filter-fewer}
 use Rattle.unasked.proofs.Deliveries.{delivered_seen}
 use Rattle.unasked.proofs.Events.{accepted_seen, evicted_seen, taken_seen}
@@ -109,6 +110,17 @@ module _ (e : InEvent) (c : Coordinator) (open_ : IsOpenIn e c) where
   pub start_plain : unasked e.checking e.start ≡ e.start
   start_plain = ap (λ (checking : ReqId → Bool). unasked checking s) open_.unchecked ∙ open_.stands.plain
 
+  -- so its tables stand for what that would have come to had nobody been asked
+  pub seen_stands : tab.StandsFor tab.none_in_check (seen_start e) c.tables c.queue c.blame.entries
+  seen_stands =
+      subst (λ (x : Seen). tab.StandsFor tab.none_in_check x c.tables c.queue c.blame.entries) (sym start_plain) open_.stands.stands
+
+  pub seen_room : HasRoomFor (seen_start e)
+  seen_room = subst HasRoomFor (sym start_plain) open_.room
+
+  pub start_lasts : LastsInLog e.checking e.start
+  start_lasts = subst (λ (checking : ReqId → Bool). LastsInLog checking e.start) (sym open_.unchecked) open_.stands.lasts
+
   -- the request isn't in a check
   pub off : (req : ReqId) → e.checking req ≡ false
   off req = ap (λ (checking : ReqId → Bool). checking req) open_.unchecked
@@ -174,6 +186,18 @@ module _ (e : InEvent) (c : Coordinator) (open_ : IsOpenIn e c) where
     read_delivered : unasked e.checking (after s (row_of e (rows.Delivered proc))) ≡ after (unasked e.checking s) (row_of e (rows.Delivered proc))
     read_delivered =
         delivered_seen e.checking s e.event e.actor proc report report delivery.first no_answer_told unheld
+
+    pub seen_delivery : IsSeenDelivery e proc report
+    seen_delivery =
+        record {
+          by_coord = delivery.by_coord;
+          own = delivery.own;
+          first = subst (λ (x : Seen). slice_get (desk_of x proc).reports 0 ≡ Some report) (sym start_plain) delivery.first;
+          real = report;
+          real_first = delivery.first;
+          quiet = no_answer_told;
+          unheld = unheld;
+        }
 
     pub delivered_plain : IsPlain e []
     delivered_plain = plain_own (rows.Delivered proc) delivery.own read_delivered

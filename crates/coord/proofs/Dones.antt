@@ -1,6 +1,7 @@
 -- An order was done of which nothing was made, and which made no document: the tab may be brought to rest.
+use Rattle.tab_stands.proofs.Logged.{own_read}
+use Rattle.coord.proofs.Asides.{delivered_aside, seen_delivery, seen_room, seen_stands}
 use Rattle.log_model.specs.declared.row_kind.LogRow.{LogRow}
-use Rattle.coord.proofs.Asides.{delivered_aside}
 use Rattle.coord.proofs.Causes.{for_none}
 use Rattle.coord.specs.Delivering.{InDone, IsDone}
 use Rattle.coord.specs.Standing.{IsOpenIn, IsToSettle, nobody}
@@ -26,13 +27,13 @@ use Rattle.tab_loads.specs.Loading.{pass_of}
 use Rattle.tab_stands.proofs.Dones.{did_takes, quiet_begun}
 use Rattle.tab_stands.proofs.Ready.{ready}
 use Rattle.tab_stands.proofs.Shown.{nav_there, shown_begun}
-use Rattle.tab_stands.specs.Delivering.{IsQuietTask, IsShowTask}
+use Rattle.tab_stands.specs.Delivering.{IsQuietTask, IsSeenDelivery, IsShowTask}
 use Rattle.tab_stands.specs.PassedOn.{IsSoundTask, MayCause}
-use Rattle.tab_stands.specs.Standing.{HasBegun, StartsUnasked}
+use Rattle.tab_stands.specs.Standing.{HasBegun, HasLogged, IsOwnRead, StandsFor, StartsUnasked, seen_start}
 use Rattle.log_model.specs.declared.job.Task.TheVariants as tasks
 use Rattle.log_model.specs.declared.job.Why.TheVariants as whys
 use Rattle.log_model.specs.declared.made.Report.TheVariants as reports
-use Rattle.coord.proofs.Fragments.{delivered_found, delivered_telling}
+use Rattle.coord.proofs.Fragments.{delivered_found, delivered_logged, delivered_telling}
 use Rattle.tab_facts.specs.Running.Running.{AreFoundRunning}
 use Rattle.tab_facts.specs.Running.Telling.{AreTelling}
 
@@ -65,9 +66,21 @@ module _ (d : InDone) (c : Coordinator) (job : Job) (done : IsDone d c job) wher
   pub done_aside : StartsUnasked d.event
   done_aside = delivered_aside e c done.open_ d.proc (reports.Done job d.outcome None) done.delivery
 
+  pub done_read : IsOwnRead d.event
+  done_read = own_read e done_aside
+
+  pub done_seen : IsSeenDelivery d.event d.proc (reports.Done job d.outcome None)
+  done_seen = seen_delivery e c done.open_ d.proc (reports.Done job d.outcome None) done.delivery
+
+  pub done_stands : StandsFor none_in_check (seen_start d.event) c.tables c.queue c.blame.entries
+  done_stands = seen_stands e c done.open_
+
+  pub done_logged : HasLogged d.event c.tables.checks
+  done_logged = delivered_logged e d.proc (reports.Done job d.outcome None) done.delivery c done.open_
+
   pub done_taken : (later : List LogRow) → IsTakenIn d.event later
   done_taken later =
-      did_takes e d.proc job d.outcome done.delivery c.tables c.queue c.blame.entries done.open_.stands.stands done_aside later
+      did_takes e d.proc job d.outcome done_seen c.tables c.queue c.blame.entries done_stands done_read later
 
   -- what is so of fragment orders, and of reports of them
   pub done_found : AreFoundRunning (now_of d.event [])
@@ -78,16 +91,16 @@ module _ (d : InDone) (c : Coordinator) (job : Job) (done : IsDone d c job) wher
 
   pub quiet_settles : IsQuietTask job.task → IsToSettle d.event [] c whys.Start
   quiet_settles quiet =
-      to_settle e c done.open_.header done.open_.unchecked (quiet_begun e d.proc job d.outcome done.delivery c.tables c.queue c.blame.entries done.open_.stands.stands done_aside quiet done.open_.room (keep_now e c done.open_)) whys.Start (for_none (now_of e [])) done_taken done_found done_telling done.slots
+      to_settle e c done.open_.header done.open_.unchecked (quiet_begun e d.proc job d.outcome done_seen c.tables c.queue c.blame.entries done_stands done_read quiet done_logged (seen_room e c done.open_) (keep_now e c done.open_)) whys.Start (for_none (now_of e [])) done_taken done_found done_telling done.slots
 
   -- its document's navigable is there
   pub shown_there : (nav : NavId) → nav_in c.tables.whose.entries job.doc ≡ Some nav → IsSome (node_of nav c.tables.tree)
   shown_there =
-      nav_there e d.proc job d.outcome done.delivery c.tables c.queue c.blame.entries done.open_.stands.stands done_aside
+      nav_there e d.proc job d.outcome done_seen c.tables c.queue c.blame.entries done_stands done_read
 
   pub shown_settles : IsShowTask job.task → (u : Tables) → u ≡ record c.tables { tree = shown_tree c.tables job.doc job.nr } → IsToSettle d.event [] (record c { tables = u }) whys.Start
   shown_settles shows u is =
-      to_settle e (record c { tables = u }) done.open_.header done.open_.unchecked (shown_begun e d.proc job d.outcome done.delivery c.tables c.queue c.blame.entries done.open_.stands.stands done_aside shows done.open_.room (keep_now e c done.open_) u is) whys.Start (for_none (now_of e [])) done_taken done_found done_telling done.slots
+      to_settle e (record c { tables = u }) done.open_.header done.open_.unchecked (shown_begun e d.proc job d.outcome done_seen c.tables c.queue c.blame.entries done_stands done_read shows done_logged (seen_room e c done.open_) (keep_now e c done.open_) u is) whys.Start (for_none (now_of e [])) done_taken done_found done_telling done.slots
 
   -- no order asks anybody
   pub no_ask : (slot : ℕ) (cause : LeaveCause) → job.task ≡ tasks.Ask slot cause → ⊥

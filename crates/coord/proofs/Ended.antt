@@ -1,4 +1,5 @@
 -- The tab has come to rest, and the event ends.
+use Rattle.tab_doors.proofs.PassedOn.{none_before}
 use Rattle.tab_doors.proofs.Works.{plain_now}
 use Rattle.seen_laws.proofs.InEvents.{now_is, later_more}
 use Rattle.tab_ids.specs.declared.ReqId.{ReqId}
@@ -46,8 +47,10 @@ settled_acts e was out c after cause last to header slots at due put left =
     record {
       stands = record {
         but = record {
-          stands = all.stands;
+          stands = subst (λ (x : Seen). tab.StandsFor tab.none_in_check x after.tables after.queue after.blame.entries) (sym plain_out) all.stands;
           keep = at.header ∙ ap (λ (h : Header). h.keep) (sym (header ∙ to.header));
+          lasts = subst (λ (checking : ReqId → Bool). tab.LastsInLog checking (log_of e out)) to.unchecked all.lasts;
+          unchecked = none_before after.tables.checks out (λ req. at.passing.work.asked.within req (off req));
           plain =
               ap (λ (checking : ReqId → Bool). unasked checking (log_of e out)) (sym to.unchecked)
               ∙ sym (now_is e out)
@@ -65,10 +68,14 @@ settled_acts e was out c after cause last to header slots at due put left =
       off = subst (λ (x : Seen). ChangesLeaveOff x out) (sym plain_out) (leaves_unsettled e was out left to.unmoved);
     }
   where
+    -- nobody is in a check
+    off : (req : ReqId) → e.checking req ≡ false
+    off req = ap (λ (checking : ReqId → Bool). checking req) to.unchecked
+
     -- nobody was asked so far
     plain_out : log_of e out ≡ now_of e out
     plain_out = plain_now e out at.passing.work.goes at.queueing.turning.plain
 
     all : tab.HasActed tab.none_in_check e out after.tables after.queue after.blame.entries
     all =
-        acted (pass_of e []) out after.tables after.queue after.blame.entries last false (λ never. absurd cc) at (put_makes e after.tables.running was out at.passing.work.goes at.passing.going.tab.asked put to.makes) (put_sound e was out at.passing.work.goes put to.sound) (of_coord e was out put to.coord) to.shows (λ req. ap (λ (checking : ReqId → Bool). checking req) to.unchecked) (λ free. due) (taken_in e was out put to.taken)
+        acted (pass_of e []) out after.tables after.queue after.blame.entries last false (λ never. absurd cc) at (put_makes e after.tables.running was out at.passing.work.goes at.passing.going.tab.asked put to.makes) (put_sound e was out at.passing.work.goes put to.sound) (of_coord e was out put to.coord) to.shows (λ free. due) (taken_in e was out put to.taken)

@@ -1,7 +1,9 @@
 -- The document that is kept longest was discarded as the user evicts it, with those below it: the tab may be brought to rest.
+use Rattle.load_doors.specs.Logged.{IsLogged}
+use Rattle.tab_stands.proofs.Logged.{evicted_lasts, own_read, unasked_logged}
+use Rattle.tab_stands.specs.Standing.{LastsInLog, StartsUnasked, seen_start}
+use Rattle.coord.proofs.Asides.{evicted_aside, seen_stands, start_lasts}
 use Rattle.tab_doors.proofs.Uncut.{uncut_now}
-use Rattle.tab_stands.specs.Standing.{StartsUnasked}
-use Rattle.coord.proofs.Asides.{evicted_aside}
 use Rattle.coord.proofs.Fines.{IsFine, fine_discard, fine_moves, makes_over, sound_over}
 use Rattle.coord.proofs.Slots.{own_slots, rows_slots}
 use Rattle.coord.specs.Evicting.{longest_in}
@@ -26,7 +28,6 @@ use Rattle.tab_ids.specs.declared.ReqId.{ReqId}
 use Rattle.tab_ids.specs.declared.StateId.{StateId}
 use Rattle.tab_loads.specs.Loading.{pass_of}
 use Rattle.tab_stands.proofs.Coming.{IsComing}
-use Rattle.tab_stands.proofs.EpochRows.{own_under}
 use Rattle.tab_stands.proofs.Orders.{keeps_coming, makes_first, sound_first}
 use Rattle.tab_stands.specs.Offs.{AreShownUnder}
 use Rattle.tab_stands.specs.PassedOn.{IsReady, MakesServe, OrdersAreSound}
@@ -50,8 +51,8 @@ pub longest_is : (s : Seen) (c : Coordinator) → StandsFor s c → oldest_of c.
 longest_is s c its = ap oldest_of its.but.stands.tied.kept
 
 module _ (e : InEvent) (state : StateId) (c : Coordinator) (open_ : IsOpenTo e c) (asks : IsEvictAsk e state) where
-  abbrev stands : tab.StandsFor tab.none_in_check e.start c.tables c.queue c.blame.entries
-  stands = open_.in_.stands.stands
+  abbrev stands : tab.StandsFor tab.none_in_check (seen_start e) c.tables c.queue c.blame.entries
+  stands = seen_stands e c open_.in_
 
   pub aside : StartsUnasked e
   aside = evicted_aside e c open_.in_ state asks.own
@@ -59,12 +60,19 @@ module _ (e : InEvent) (state : StateId) (c : Coordinator) (open_ : IsOpenTo e c
   leads_own : leads e.own ≡ true
   leads_own = ap (λ (k : RowKind). leads k) asks.own
 
-  comes : IsComing c.blame.entries e.start (now_of e [])
-  comes = comes_own e state asks c.tables c.queue c.blame.entries stands aside
-
   -- no report is taken
   alive : (proc : ProcId) → e.own ≡ rows.Delivered proc → NoDeath (slice_get (desk_of e.start proc).reports 0)
   alive proc is = let never : rows.Evicted state ≡ rows.Delivered proc = sym asks.own ∙ is in absurd cc
+
+  -- what is known of the log then
+  pub lasts_log : LastsInLog e.checking (log_of e [])
+  lasts_log = evicted_lasts e aside.uncut leads_own alive (start_lasts e c open_.in_) state asks.own
+
+  pub logged : IsLogged e c.tables.checks
+  logged = unasked_logged e aside c.tables.checks open_.in_.stands.unchecked (start_lasts e c open_.in_).checks.numbered lasts_log.checks
+
+  comes : IsComing c.blame.entries (seen_start e) (now_of e [])
+  comes = comes_own e state asks c.tables c.queue c.blame.entries stands aside logged lasts_log
 
   module _ (out : List RowKind) (came : HasEvicted e state out) (u : Tables) (ready : IsReady (pass_of e []) out u c.queue c.blame.entries whys.Evict) where
     discards : (row : RowKind) → IsDiscardFor whys.Evict row → IsFine (now_of e out) whys.Evict row
@@ -76,14 +84,14 @@ module _ (e : InEvent) (state : StateId) (c : Coordinator) (open_ : IsOpenTo e c
 
     makes : MakesServe (now_of e out)
     makes =
-        makes_over e u.running out ready.passing.work.goes whys.Evict ready.passing.going.tab.asked ready.open_.may fine (makes_first e aside leads_own comes.serves stands.lasts.makes)
+        makes_over e u.running out ready.passing.work.goes whys.Evict ready.passing.going.tab.asked ready.open_.may fine (makes_first e (own_read e aside) leads_own comes.serves stands.lasts.makes)
 
     sound : OrdersAreSound (now_of e out)
     sound =
-        sound_over e u.running out ready.passing.work.goes whys.Evict ready.passing.going.tab.asked ready.open_.may fine (sound_first e aside leads_own (keeps_coming c.blame.entries e.start (now_of e []) comes) stands.lasts.sound)
+        sound_over e u.running out ready.passing.work.goes whys.Evict ready.passing.going.tab.asked ready.open_.may fine (sound_first e (own_read e aside) leads_own (keeps_coming c.blame.entries (seen_start e) (now_of e []) comes) stands.lasts.sound)
 
     shows : AreShownUnder (log_of e [])
-    shows = own_under e aside.uncut leads_own alive stands.lasts.shows
+    shows = lasts_log.shows
 
     -- no document is sent to a fragment
     sends_none : (job : Job) → Has out (rows.Sent job) → IsFragmentTask job.task → ⊥
@@ -97,7 +105,7 @@ module _ (e : InEvent) (state : StateId) (c : Coordinator) (open_ : IsOpenTo e c
 
     desks : AreDesksIn (now_of e [])
     desks =
-        subst AreDesksIn (sym (sym (uncut_now e aside.uncut aside.plain) ∙ ap (λ (k : RowKind). next e.start e.event e.actor k) asks.own)) (evicted_desks e.start e.event e.actor stands.between.tab.desks state)
+        subst AreDesksIn (sym (sym (uncut_now e aside.uncut aside.plain) ∙ ap (λ (k : RowKind). next e.start e.event e.actor k) asks.own)) (evicted_desks e.start e.event e.actor open_.in_.stands.stands.between.tab.desks state)
 
     found : AreFoundRunning (now_of e out)
     found =

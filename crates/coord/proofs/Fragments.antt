@@ -1,8 +1,10 @@
 -- Fragment orders find their documents running, and reports of them tell of what was made: as an event's own row is logged, and over rows that a coordinator puts out.
+use Rattle.load_doors.specs.Logged.{IsLogged}
+use Rattle.tab_stands.proofs.Logged.{accepted_lasts, delivered_lasts, delivered_legal, own_read, unasked_logged, with_lawful}
 use Rattle.tab_doors.proofs.Uncut.{uncut_now}
 use Rattle.seen_laws.proofs.InEvents.{since_goes}
-use Rattle.tab_stands.specs.Standing.{StartsUnasked}
-use Rattle.coord.proofs.Asides.{accepted_aside, delivered_aside}
+use Rattle.tab_stands.specs.Standing.{HasLogged, LastsInLog, StartsUnasked}
+use Rattle.coord.proofs.Asides.{accepted_aside, delivered_aside, off, seen_delivery, seen_stands, start_lasts, start_plain}
 use Rattle.coord.proofs.News.{is_quiet}
 use Rattle.coord.specs.Standing.{IsOpenIn}
 use Rattle.coord.specs.declared.coordinator.Coordinator.{Coordinator}
@@ -23,9 +25,9 @@ use Rattle.tab_facts.proofs.Running.Tells.{telling_after, telling_over}
 use Rattle.tab_facts.specs.Running.Fitting.{IsFittingRow}
 use Rattle.tab_facts.specs.Running.Running.{AreFoundRunning}
 use Rattle.tab_facts.specs.Running.Telling.{AreTelling, EndsNoFragment}
-use Rattle.seen_laws.specs.InEvent.{InEvent, now_of, EachGoes}
+use Rattle.seen_laws.specs.InEvent.{EachGoes, InEvent, log_of, now_of}
 use Rattle.seen_laws.specs.Sending.{leads}
-use Rattle.std.proofs.Common.{List, Option, [], ap, false, refl, subst, sym, true, ◌++◌, ◌∙◌, ◌≡◌}
+use Rattle.std.proofs.Common.{List, Option, [], ap, false, refl, subst, sym, true, ◌++◌, ◌∙◌, ◌≡◌, length}
 use Rattle.std.specs.Prelude.{slice_get}
 use Rattle.tab_ids.specs.declared.DocId.{DocId}
 use Rattle.tab_ids.specs.declared.ProcId.{ProcId}
@@ -67,6 +69,15 @@ module _ (e : InEvent) (c : Coordinator) (open_ : IsOpenIn e c) (req : ReqId) (d
   led_here : leads e.own ≡ true
   led_here = ap (λ (k : RowKind). leads k) own
 
+  -- what lasts of the log
+  pub accepted_log : req.0 ≡ length e.start.requests + 1 → LastsInLog e.checking (log_of e [])
+  accepted_log next =
+      accepted_lasts e open_.uncut led_here (λ proc is. (let never : rows.Accepted req doc what ≡ rows.Delivered proc = sym own ∙ is in absurd cc)) (start_lasts e c open_) req doc what own next (off e c open_ req)
+
+  pub accepted_logged : req.0 ≡ length e.start.requests + 1 → IsLogged e c.tables.checks
+  accepted_logged next =
+      unasked_logged e (accepted_aside e c open_ req doc what own) c.tables.checks open_.stands.unchecked (start_lasts e c open_).checks.numbered (accepted_log next).checks
+
   pub accepted_found : AreFoundRunning (now_of e [])
   accepted_found =
       own_found e led_here (accepted_aside e c open_ req doc what own) (λ proc is. (let never : rows.Accepted req doc what ≡ rows.Delivered proc = sym own ∙ is in absurd cc)) open_.stands.found
@@ -81,13 +92,25 @@ module _ (e : InEvent) (proc : ProcId) (report : Report) (delivery : IsDelivery 
 
   fine : NoDeath (slice_get (desk_of e.start proc).reports 0)
   fine =
-      told_fine e proc delivery.by_coord delivery.own c.tables c.queue c.blame.entries open_.stands.stands (delivered_aside e c open_ proc report delivery) report delivery.first
+      subst (λ (x : Seen). NoDeath (slice_get (desk_of x proc).reports 0)) (start_plain e c open_) (told_fine e proc delivery.by_coord delivery.own c.tables c.queue c.blame.entries (seen_stands e c open_) (own_read e (delivered_aside e c open_ proc report delivery)) report (seen_delivery e c open_ proc report delivery).first)
 
   alive : (p : ProcId) → e.own ≡ rows.Delivered p → NoDeath (slice_get (desk_of e.start p).reports 0)
   alive p is =
       let both : rows.Delivered proc ≡ rows.Delivered p = sym delivery.own ∙ is in
       let one : proc ≡ p = cc in
       subst (λ (q : ProcId). NoDeath (slice_get (desk_of e.start q).reports 0)) one fine
+
+  -- what is known of the log then
+  pub delivered_logged : HasLogged e c.tables.checks
+  delivered_logged =
+      with_lawful e aside c.tables.checks (unasked_logged e aside c.tables.checks open_.stands.unchecked (start_lasts e c open_).checks.numbered lasts.checks) lasts
+      (delivered_legal e proc report open_.uncut delivery.by_coord delivery.own delivery.first open_.stands.stands.between.tab.asked.passed)
+    where
+      aside : StartsUnasked e
+      aside = delivered_aside e c open_ proc report delivery
+
+      lasts : LastsInLog e.checking (log_of e [])
+      lasts = delivered_lasts e open_.uncut led_so alive (start_lasts e c open_) proc delivery.own
 
   pub delivered_found : AreFoundRunning (now_of e [])
   delivered_found = own_found e led_so (delivered_aside e c open_ proc report delivery) alive open_.stands.found

@@ -4,7 +4,7 @@ use Rattle.coord.specs.Delivering.{InDelivery, IsDone, IsMade, outcome_of, slot_
 use Rattle.coord.specs.Standing.{IsOpenIn, IsOpenTo}
 use Rattle.coord.specs.declared.coordinator.Coordinator.{Coordinator}
 use Rattle.log_model.specs.After.{after}
-use Rattle.log_model.specs.Seen.{desk_of}
+use Rattle.log_model.specs.Seen.{Seen, desk_of}
 use Rattle.log_model.specs.declared.job.Job.{Job}
 use Rattle.log_model.specs.declared.made.Made.{Made}
 use Rattle.log_model.specs.declared.made.Report.TheVariants as reports
@@ -57,7 +57,9 @@ open_then e c heard same open_ =
       stands = record {
         stands = open_.stands.stands;
         keep = open_.stands.keep;
+        lasts = open_.stands.lasts;
         plain = open_.stands.plain;
+        unchecked = open_.stands.unchecked;
         found = open_.stands.found;
         telling = open_.stands.telling;
       };

@@ -1,7 +1,10 @@
 -- A load was refused, dropped, sent to a fragment or has begun: the tab may be brought to rest.
+use Rattle.load_doors.specs.Logged.{IsLogged}
+use Rattle.tab_stands.proofs.Logged.{own_read}
+use Rattle.load_doors.proofs.Starts.{next_start}
 use Rattle.unasked.proofs.Nows.{sent_now, sent_goes, dropped_goes, refused_goes}
 use Rattle.seen_laws.specs.Unasked.{is_question}
-use Rattle.coord.proofs.Asides.{accepted_aside, one_goes}
+use Rattle.coord.proofs.Asides.{accepted_aside, one_goes, seen_stands}
 use Rattle.coord.proofs.Fines.{IsFine, fine_fragment, fine_moves, fine_populate, makes_over, more_fine, no_job, one_fine, sound_over}
 use Rattle.coord.specs.Standing.{IsAsk, IsOpenTo, IsToSettle, MoveNobody}
 use Rattle.coord.proofs.Slots.{own_slots, rows_slots}
@@ -34,17 +37,16 @@ use Rattle.tab_loads.specs.declared.loaded.Loaded.{Loaded}
 use Rattle.tab_loads.specs.declared.loaded.Loaded.TheVariants.{Begun, CutOff, Refused, ToFragment}
 use Rattle.tab_stands.proofs.Accepting.{comes_now, new, now, takes_none, there_now}
 use Rattle.tab_stands.proofs.Coming.{IsComing}
-use Rattle.tab_stands.proofs.EpochRows.{own_under}
 use Rattle.tab_stands.proofs.Orders.{keeps_coming, makes_first, sound_first}
 use Rattle.tab_stands.proofs.PassedOn.{KeepsWhat, sent_homes}
 use Rattle.tab_stands.specs.Offs.{AreShownUnder}
 use Rattle.tab_stands.specs.PassedOn.{Ends, EndsAlone, HasPut, IsOfItsLoad, IsReady, IsTab, MakesServe, OrdersAreSound}
-use Rattle.tab_stands.specs.Standing.{IsTakenUp, StandsFor, none_in_check}
+use Rattle.tab_stands.specs.Standing.{IsTakenUp, LastsInLog, StandsFor, none_in_check, seen_start}
 use Rattle.log_model.specs.declared.outcome.Cause.TheVariants as drops
 use Rattle.log_model.specs.declared.request.Request.TheVariants as requests
 use Rattle.log_model.specs.declared.row_kind.RowKind.TheVariants as rows
 use Rattle.seen_facts.proofs.Walk.Placed.{found_nav}
-use Rattle.coord.proofs.Fragments.{accepted_found, accepted_telling, plain_found}
+use Rattle.coord.proofs.Fragments.{accepted_found, accepted_log, accepted_logged, accepted_telling, plain_found}
 use Rattle.seen_facts.proofs.Coord.Unread.{accepted_held, accepted_left, left_leads, next}
 use Rattle.seen_facts.specs.Coord.Leading.{held_back}
 use Rattle.seen_facts.proofs.Desk.Rows.{unpoked}
@@ -60,37 +62,36 @@ use Rattle.log_model.specs.declared.row_kind.Actor.TheVariants as actors
 
 -- ---- a load
 
-module _ (e : InEvent) (t : Tables) (queue : Queue) (blame : List (StateId × ReqId)) (stands : StandsFor none_in_check e.start t queue blame) (req : ReqId) (nav : NavId) (mode : Mode) (address : List ℕ) (its : IsLoadAsk e req nav mode address) where
+module _ (e : InEvent) (t : Tables) (queue : Queue) (blame : List (StateId × ReqId)) (stands : StandsFor none_in_check (seen_start e) t queue blame) (req : ReqId) (nav : NavId) (mode : Mode) (address : List ℕ) (its : IsLoadAsk e req nav mode address) (lasts : LastsInLog e.checking (log_of e [])) where
   abbrev load : Request
   load = requests.Load nav mode address
 
-  comes : IsComing blame e.start (now_of e [])
-  comes = comes_now e req None load its.by_user its.own its.next its.aside t queue blame stands
+  comes : IsComing blame (seen_start e) (now_of e [])
+  comes = comes_now e req None load its.by_user its.own (next_start e req.0 its.next) (own_read e its.aside) t queue blame stands
 
   -- each document shown was shown under its navigable's epoch as the event began
   pub load_shows : AreShownUnder (log_of e [])
-  load_shows =
-      own_under e its.aside.uncut (ap (λ (k : RowKind). leads k) its.own) (λ proc is. (let never : rows.Accepted req None load ≡ rows.Delivered proc = sym its.own ∙ is in absurd cc)) stands.lasts.shows
+  load_shows = lasts.shows
 
   pub load_taken : (out : List RowKind) → IsTakenUp e out
-  load_taken out later = takes_none e req None load its.by_user its.own its.next its.aside (later_of e out ++ later)
+  load_taken out later = takes_none e req None load its.by_user its.own (next_start e req.0 its.next) (own_read e its.aside) (later_of e out ++ later)
 
   -- its request is there
-  there : request_of (now_of e []) req ≡ Some (new e req None load its.by_user its.own its.next its.aside)
-  there = ap (λ (x : Seen). request_of x req) (now e req None load its.by_user its.own its.next its.aside) ∙ there_now e req None load its.by_user its.own its.next its.aside
+  there : request_of (now_of e []) req ≡ Some (new e req None load its.by_user its.own (next_start e req.0 its.next) (own_read e its.aside))
+  there = ap (λ (x : Seen). request_of x req) (now e req None load its.by_user its.own (next_start e req.0 its.next) (own_read e its.aside)) ∙ there_now e req None load its.by_user its.own (next_start e req.0 its.next) (own_read e its.aside)
 
   -- what each process has is of its documents, and who is awake runs once all orders are done that come to its document
   desks_now : AreDesksIn (now_of e [])
   desks_now =
-      subst AreDesksIn (sym (now e req None load its.by_user its.own its.next its.aside)) (unpoked e.start e.event actors.Ui stands.between.tab.desks req load)
+      subst AreDesksIn (sym (now e req None load its.by_user its.own (next_start e req.0 its.next) (own_read e its.aside))) (unpoked (seen_start e) e.event actors.Ui stands.between.tab.desks req load)
 
   awake_now : AwakeRun (now_of e [])
   awake_now =
-      subst AwakeRun (sym (now e req None load its.by_user its.own its.next its.aside))
-      (awake_run went_.history.rows (held_back went_.requests went_.parked) went_ (left_leads e.start went_ (accepted_left e.start e.event actors.Ui req None load) refl refl refl (accepted_held e.start e.event actors.Ui req None load) stands.between.flows.leads))
+      subst AwakeRun (sym (now e req None load its.by_user its.own (next_start e req.0 its.next) (own_read e its.aside)))
+      (awake_run went_.history.rows (held_back went_.requests went_.parked) went_ (left_leads (seen_start e) went_ (accepted_left (seen_start e) e.event actors.Ui req None load) refl refl refl (accepted_held (seen_start e) e.event actors.Ui req None load) stands.between.flows.leads))
     where
       went_ : Seen
-      went_ = next e.start e.event actors.Ui (rows.Accepted req None load)
+      went_ = next (seen_start e) e.event actors.Ui (rows.Accepted req None load)
 
   module _ (out : List RowKind) (u : Tables) (noted : List (StateId × ReqId)) where
     abbrev n : Seen
@@ -120,12 +121,12 @@ module _ (e : InEvent) (t : Tables) (queue : Queue) (blame : List (StateId × Re
     -- the document that is sent to a fragment is its navigable's
     fragment_own : (sent : WasSent (now_of e []) req nav mode address out) → IsOfItsLoad (now_of e out) sent.job.doc req
     fragment_own sent =
-        let placed : place_of e.start nav ≡ Some sent.fragment.place = ap (λ (x : Seen). place_of x nav) (sym (now e req None load its.by_user its.own its.next its.aside)) ∙ sent.fragment.there in
-        let home : IsHomed e.start.documents sent.fragment.place sent.job.doc = stands.between.tab.homes.homed nav sent.fragment.place sent.job.doc placed sent.doc in
-        let first = (keeps_coming blame e.start (now_of e []) comes).homes sent.job.doc home.home.document home.home.found in
+        let placed : place_of (seen_start e) nav ≡ Some sent.fragment.place = ap (λ (x : Seen). place_of x nav) (sym (now e req None load its.by_user its.own (next_start e req.0 its.next) (own_read e its.aside))) ∙ sent.fragment.there in
+        let home : IsHomed (seen_start e).documents sent.fragment.place sent.job.doc = stands.between.tab.homes.homed nav sent.fragment.place sent.job.doc placed sent.doc in
+        let first = (keeps_coming blame (seen_start e) (now_of e []) comes).homes sent.job.doc home.home.document home.home.found in
         let d = over.homes sent.job.doc first.0 first.1 in
-        let q = over.asked req (new e req None load its.by_user its.own its.next its.aside) there in
-        let navs : d.0.nav ≡ nav = d.2 ∙ first.2 ∙ home.home.nav_is ∙ found_nav e.start.places nav sent.fragment.place placed in
+        let q = over.asked req (new e req None load its.by_user its.own (next_start e req.0 its.next) (own_read e its.aside)) there in
+        let navs : d.0.nav ≡ nav = d.2 ∙ first.2 ∙ home.home.nav_is ∙ found_nav (seen_start e).places nav sent.fragment.place placed in
         record {
           q = q.0;
           found = q.1;
@@ -189,7 +190,7 @@ module _ (e : InEvent) (t : Tables) (queue : Queue) (blame : List (StateId × Re
 
       pub load_makes : MakesServe (now_of e out)
       load_makes =
-          makes_over e u.running out ready.passing.work.goes (cause_of req loaded) tab.asked ready.open_.may (fine_came loaded came) (makes_first e its.aside (ap (λ (k : RowKind). leads k) its.own) comes.serves stands.lasts.makes)
+          makes_over e u.running out ready.passing.work.goes (cause_of req loaded) tab.asked ready.open_.may (fine_came loaded came) (makes_first e (own_read e its.aside) (ap (λ (k : RowKind). leads k) its.own) comes.serves stands.lasts.makes)
 
       pub load_coord : (row : RowKind) → Has out row → IsOfCoord row
       load_coord row has = (fine_came loaded came row has).coord
@@ -199,7 +200,7 @@ module _ (e : InEvent) (t : Tables) (queue : Queue) (blame : List (StateId × Re
 
       pub load_sound : OrdersAreSound (now_of e out)
       load_sound =
-          sound_over e u.running out ready.passing.work.goes (cause_of req loaded) tab.asked ready.open_.may (fine_came loaded came) (sound_first e its.aside (ap (λ (k : RowKind). leads k) its.own) (keeps_coming blame e.start (now_of e []) comes) stands.lasts.sound)
+          sound_over e u.running out ready.passing.work.goes (cause_of req loaded) tab.asked ready.open_.may (fine_came loaded came) (sound_first e (own_read e its.aside) (ap (λ (k : RowKind). leads k) its.own) (keeps_coming blame (seen_start e) (now_of e []) comes) stands.lasts.sound)
 
       -- ---- fragment orders, and reports of them
 
@@ -221,6 +222,12 @@ module _ (e : InEvent) (t : Tables) (queue : Queue) (blame : List (StateId × Re
 
 -- the tab may be brought to rest then
 module _ (e : InEvent) (c : Coordinator) (open_ : IsOpenTo e c) (req : ReqId) (nav : NavId) (mode : Mode) (address : List ℕ) (asked : IsAsk e req (asks.Load nav mode address)) where
+  pub load_logged : IsLogged e c.tables.checks
+  load_logged = accepted_logged e c open_.in_ req None (requests.Load nav mode address) asked.own asked.next
+
+  pub load_lasts : LastsInLog e.checking (log_of e [])
+  load_lasts = accepted_log e c open_.in_ req None (requests.Load nav mode address) asked.own asked.next
+
   pub load_asks : IsLoadAsk e req nav mode address
   load_asks =
       record { by_user = asked.by_user; own = asked.own; next = asked.next; aside = accepted_aside e c open_.in_ req None (requests.Load nav mode address) asked.own }
@@ -231,17 +238,17 @@ module _ (e : InEvent) (c : Coordinator) (open_ : IsOpenTo e c) (req : ReqId) (n
         header = header ∙ open_.in_.header;
         unchecked = open_.in_.unchecked;
         ready = subst (λ (w : Why). IsReady (pass_of e []) out after.tables after.queue after.blame.entries w) (sym is) ready;
-        makes = load_makes e c.tables c.queue c.blame.entries open_.in_.stands.stands req nav mode address load_asks out after.tables after.blame.entries loaded came after.queue ready;
-        sound = load_sound e c.tables c.queue c.blame.entries open_.in_.stands.stands req nav mode address load_asks out after.tables after.blame.entries loaded came after.queue ready;
-        coord = load_coord e c.tables c.queue c.blame.entries open_.in_.stands.stands req nav mode address load_asks out after.tables after.blame.entries loaded came after.queue ready;
-        unmoved = load_moves e c.tables c.queue c.blame.entries open_.in_.stands.stands req nav mode address load_asks out after.tables after.blame.entries loaded came after.queue ready;
-        shows = load_shows e c.tables c.queue c.blame.entries open_.in_.stands.stands req nav mode address load_asks;
-        taken = load_taken e c.tables c.queue c.blame.entries open_.in_.stands.stands req nav mode address load_asks out;
-        found = load_found e c.tables c.queue c.blame.entries open_.in_.stands.stands req nav mode address load_asks out after.tables after.blame.entries loaded came after.queue ready (accepted_found e c open_.in_ req None (requests.Load nav mode address) asked.own);
-        telling = load_telling e c.tables c.queue c.blame.entries open_.in_.stands.stands req nav mode address load_asks out after.tables after.blame.entries loaded came after.queue ready (accepted_telling e c open_.in_ req None (requests.Load nav mode address) asked.own);
+        makes = load_makes e c.tables c.queue c.blame.entries (seen_stands e c open_.in_) req nav mode address load_asks load_lasts out after.tables after.blame.entries loaded came after.queue ready;
+        sound = load_sound e c.tables c.queue c.blame.entries (seen_stands e c open_.in_) req nav mode address load_asks load_lasts out after.tables after.blame.entries loaded came after.queue ready;
+        coord = load_coord e c.tables c.queue c.blame.entries (seen_stands e c open_.in_) req nav mode address load_asks load_lasts out after.tables after.blame.entries loaded came after.queue ready;
+        unmoved = load_moves e c.tables c.queue c.blame.entries (seen_stands e c open_.in_) req nav mode address load_asks load_lasts out after.tables after.blame.entries loaded came after.queue ready;
+        shows = load_shows e c.tables c.queue c.blame.entries (seen_stands e c open_.in_) req nav mode address load_asks load_lasts;
+        taken = load_taken e c.tables c.queue c.blame.entries (seen_stands e c open_.in_) req nav mode address load_asks load_lasts out;
+        found = load_found e c.tables c.queue c.blame.entries (seen_stands e c open_.in_) req nav mode address load_asks load_lasts out after.tables after.blame.entries loaded came after.queue ready (accepted_found e c open_.in_ req None (requests.Load nav mode address) asked.own);
+        telling = load_telling e c.tables c.queue c.blame.entries (seen_stands e c open_.in_) req nav mode address load_asks load_lasts out after.tables after.blame.entries loaded came after.queue ready (accepted_telling e c open_.in_ req None (requests.Load nav mode address) asked.own);
         slots =
             subst (λ (l : List (DocId × ℕ)). AreSlots (log_of e out) l) (sym slots)
-            (rows_slots e c.slots.entries out [] (load_coord e c.tables c.queue c.blame.entries open_.in_.stands.stands req nav mode address load_asks out after.tables after.blame.entries loaded came after.queue ready) (own_slots e c.slots.entries open_.in_.uncut (rows.Accepted req None (requests.Load nav mode address)) asked.own tt open_.slots));
+            (rows_slots e c.slots.entries out [] (load_coord e c.tables c.queue c.blame.entries (seen_stands e c open_.in_) req nav mode address load_asks load_lasts out after.tables after.blame.entries loaded came after.queue ready) (own_slots e c.slots.entries open_.in_.uncut (rows.Accepted req None (requests.Load nav mode address)) asked.own tt open_.slots));
       }
 
 -- ---- what was put out for what a document made: one row, which ends its request

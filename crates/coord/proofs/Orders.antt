@@ -1,6 +1,6 @@
 -- A process takes up an order, or finishes one: the coordinator has acted, which does nothing itself.
+use Rattle.coord.proofs.Asides.{finished_plain, joined_goes, joined_plain, one_goes, start_lasts, taken_plain}
 use Rattle.tab_doors.proofs.Uncut.{uncut_now}
-use Rattle.coord.proofs.Asides.{finished_plain, joined_plain, taken_plain, one_goes, joined_goes}
 use Rattle.coord.specs.Standing.{HasActed, IsOpenTo}
 use Rattle.coord.specs.declared.coordinator.Coordinator.{Coordinator}
 use Rattle.coord.proofs.Idle.{alone_acts, found_now, idle_acts}
@@ -73,7 +73,7 @@ module _ (e : InEvent) (c : Coordinator) (open_ : IsOpenTo e c) (proc : ProcId) 
   taken_acts job dirty free first event is_dirty own =
       alone_acts e c open_ (rows.Taken proc job.nr true dirty) own (taken_plain e c open_.in_ proc job.nr true dirty job first own) (record { live_is = refl; free = free; job = job; first = first }) tt
       (own_slots e c.slots.entries open_.in_.uncut (rows.Taken proc job.nr true dirty) own tt open_.slots)
-      (orders.taken_acts e c.tables c.queue c.blame.entries open_.in_.stands.stands open_.in_.room proc job dirty free first open_.in_.uncut by event is_dirty own)
+      (orders.taken_acts e c.tables c.queue c.blame.entries open_.in_.stands.stands (start_lasts e c open_.in_) open_.in_.room proc job dirty free first open_.in_.uncut by event is_dirty own)
 
   -- ---- one is finished, which is in hand; the outcome is one of its task
 
@@ -92,7 +92,7 @@ module _ (e : InEvent) (c : Coordinator) (open_ : IsOpenTo e c) (proc : ProcId) 
         alone_acts e c open_ (rows.Finished proc order.job.nr outcome) own (finished_plain e c open_.in_ proc order outcome hand bare own) is_up
         (λ x there fragment. no_fragment order.job.task other (subst (λ (y : Order). IsFragmentTask y.job.task) (some_same (sym there ∙ hand)) fragment))
         (finished_own e c open_ proc order outcome hand its own)
-        (orders.finished_acts e c.tables c.queue c.blame.entries open_.in_.stands.stands open_.in_.room proc order outcome hand its bare other pages open_.in_.uncut by event own)
+        (orders.finished_acts e c.tables c.queue c.blame.entries open_.in_.stands.stands (start_lasts e c open_.in_) open_.in_.room proc order outcome hand its bare other pages open_.in_.uncut by event own)
 
 -- ---- a fragment order
 
@@ -140,7 +140,7 @@ module _ (e : InEvent) (c : Coordinator) (open_ : IsOpenTo e c) (proc : ProcId) 
       pub fragment_acts : HasActed e (rows.Made proc (made_for view req (fragment_of view mode address)) ∷ []) c
       fragment_acts =
           idle_acts e c open_ (rows.Made proc made ∷ []) (tt, tt)
-          (fragments.fragment_acts e c.tables c.queue c.blame.entries open_.in_.stands.stands open_.in_.room proc order req mode address d view to open_.in_.uncut by (own ∙ ap (λ (o : Outcome). rows.Finished proc order.job.nr o) so))
+          (fragments.fragment_acts e c.tables c.queue c.blame.entries open_.in_.stands.stands (start_lasts e c open_.in_) open_.in_.room proc order req mode address d view to open_.in_.uncut by (own ∙ ap (λ (o : Outcome). rows.Finished proc order.job.nr o) so))
           (joined_plain e c open_.in_ proc order outcome hand bare own made)
           found_then telling_then
           (row_slots e c.slots.entries [] (rows.Made proc made) tt (finished_own e c open_ proc order outcome hand its own))

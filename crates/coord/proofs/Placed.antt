@@ -1,5 +1,6 @@
 -- A document was made: the load that waits for it, if one does, is its navigable's, and the request for which it was made is noted for it; so the tab may be brought to rest.
-use Rattle.coord.proofs.Dones.{done_aside, done_found, done_taken, done_telling, keep_now, to_settle}
+use Rattle.coord.proofs.Asides.{seen_room}
+use Rattle.coord.proofs.Dones.{done_found, done_logged, done_read, done_seen, done_stands, done_taken, done_telling, keep_now, to_settle}
 use Rattle.coord.specs.Delivering.{HasPlaced, InDone, IsDone, steps_of}
 use Rattle.coord.specs.Standing.{IsToSettle}
 use Rattle.coord.specs.declared.coordinator.Coordinator.{Coordinator}
@@ -44,9 +45,9 @@ use Rattle.tab_facts.specs.Order.Orders.{TellsOf}
 use Rattle.seen_facts.proofs.Each.Eaches.{each_first}
 use Rattle.log_model.specs.Seen.{desk_of}
 use Rattle.log_model.specs.declared.made.Report.TheVariants as reports
-use Rattle.tab_stands.specs.Delivering.{IsMadeNoted, IsMakeTask, step_ready}
+use Rattle.tab_stands.specs.Delivering.{IsMadeNoted, IsMakeTask, IsSeenDelivery, step_ready}
 use Rattle.tab_stands.specs.PassedOn.{IsMake, IsStray, MayCause}
-use Rattle.tab_stands.specs.Standing.{HasBegun, StandsFor, StartsUnasked, none_in_check}
+use Rattle.tab_stands.specs.Standing.{HasBegun, IsOwnRead, StandsFor, none_in_check, seen_start}
 use Rattle.tab_unneeded.proofs.Strays.{needed_is}
 use Rattle.tab_unneeded.specs.Telling.{is_unneeded_in}
 use Rattle.log_model.specs.declared.job.Task.TheVariants as tasks
@@ -77,25 +78,28 @@ module _ (d : InDone) (c : Coordinator) (job : Job) (done : IsDone d c job) (sta
   e = d.event
 
   abbrev s : Seen
-  s = e.start
+  s = seen_start e
 
   abbrev t : Tables
   t = c.tables
 
   abbrev stands : StandsFor none_in_check s c.tables c.queue c.blame.entries
-  stands = done.open_.stands.stands
+  stands = done_stands d c job done
 
-  aside : StartsUnasked e
-  aside = done_aside d c job done
+  aside : IsOwnRead e
+  aside = done_read d c job done
+
+  heard : IsSeenDelivery e d.proc (reports.Done job d.outcome None)
+  heard = done_seen d c job done
 
   abbrev its : Makes job state
   its = makes_of job state is_make
 
   abbrev own : Document
-  own = its_document e d.proc job d.outcome done.delivery t c.queue c.blame.entries stands aside its.nav state its.address its.initial its.task
+  own = its_document e d.proc job d.outcome heard t c.queue c.blame.entries stands aside its.nav state its.address its.initial its.task
 
   found : document_of s job.doc ≡ Some own
-  found = its_found e d.proc job d.outcome done.delivery t c.queue c.blame.entries stands aside its.nav state its.address its.initial its.task
+  found = its_found e d.proc job d.outcome heard t c.queue c.blame.entries stands aside its.nav state its.address its.initial its.task
 
   birth : lookup (is_doc job.doc) t.whose.entries ≡ Some (birth_of (sight own))
   birth =
@@ -116,7 +120,7 @@ module _ (d : InDone) (c : Coordinator) (job : Job) (done : IsDone d c job) (sta
     -- the load that waits for the document, if one does, is its navigable's
     pub waits_own : WaitsAtItsNav t job.doc
     waits_own =
-        awaited_own e d.proc job d.outcome done.delivery t c.queue c.blame.entries stands aside its.nav state its.address its.initial its.task one_each
+        awaited_own e d.proc job d.outcome heard t c.queue c.blame.entries stands aside its.nav state its.address its.initial its.task one_each
 
     of_nav : (load : Load) → find (is_populating job.doc) t.loads ≡ Some load → ongoing_load nav t.loads ≡ Some load
     of_nav load found =
@@ -177,9 +181,9 @@ module _ (d : InDone) (c : Coordinator) (job : Job) (done : IsDone d c job) (sta
   -- orders may be for what it was made for
   made_may : MayCause (now_of e []) job.why
   made_may =
-      subst (λ (x : Seen). MayCause x job.why) (sym (did_now e d.proc job d.outcome done.delivery t c.queue c.blame.entries stands aside))
-      (told_causes e d.proc done.delivery.by_coord done.delivery.own t c.queue c.blame.entries stands aside (reports.Done job d.outcome None) done.delivery.first
-      (did_requests e d.proc job d.outcome done.delivery t c.queue c.blame.entries stands aside asks_none) job.why (before is_it))
+      subst (λ (x : Seen). MayCause x job.why) (sym (did_now e d.proc job d.outcome heard t c.queue c.blame.entries stands aside))
+      (told_causes e d.proc heard.by_coord heard.own t c.queue c.blame.entries stands aside (reports.Done job d.outcome None) heard.first
+      (did_requests e d.proc job d.outcome heard t c.queue c.blame.entries stands aside asks_none) job.why (before is_it))
     where
       asks_none : AsksNone job.task
       asks_none = subst (λ (k : Task). AsksNone k) (sym its.task) tt
@@ -189,7 +193,7 @@ module _ (d : InDone) (c : Coordinator) (job : Job) (done : IsDone d c job) (sta
 
       before : IsMake job.task → MayCause s job.why
       before =
-          each_first (TellsOf (λ (x : Job). IsMake x.task → MayCause s x.why)) (desk_of s d.proc).reports (reports.Done job d.outcome None) done.delivery.first (stands.lasts.makes d.proc).told
+          each_first (TellsOf (λ (x : Job). IsMake x.task → MayCause s x.why)) (desk_of s d.proc).reports (reports.Done job d.outcome None) heard.first (stands.lasts.makes d.proc).told
 
   pub noted_for : (req : ReqId) → job.why ≡ whys.Req req → (noted : List (StateId × ReqId)) → noted ≡ insert_entry is_state c.blame.entries state req → IsMadeNoted (now_of d.event []) c.blame.entries noted job.doc state
   noted_for req is noted put =
@@ -210,7 +214,7 @@ module _ (d : InDone) (c : Coordinator) (job : Job) (done : IsDone d c job) (sta
   -- where the tables tell that it is needed, it isn't stray
   pub needed : is_unneeded_in c.tables job.doc state ≡ false → IsStray (now_of d.event []) job.doc state → ⊥
   needed =
-      needed_is e d.proc job d.outcome done.delivery t c.queue c.blame.entries stands aside its.nav state its.address its.initial its.task
+      needed_is e d.proc job d.outcome heard t c.queue c.blame.entries stands aside its.nav state its.address its.initial its.task
 
   -- ---- so the tab may be brought to rest
 
@@ -219,6 +223,6 @@ module _ (d : InDone) (c : Coordinator) (job : Job) (done : IsDone d c job) (sta
       to_settle e after (header ∙ placed.header ∙ done.open_.header) done.open_.unchecked
       (subst (λ (q : Queue). HasBegun (pass_of e []) after.tables q after.blame.entries) (sym queue)
       (subst (λ (x : Tables). HasBegun (pass_of e []) x then_.queue after.blame.entries) (sym tables)
-      (placed_begun e d.proc job d.outcome done.delivery t c.queue c.blame.entries stands aside its.nav state its.address its.initial its.task placed.one_each then_.tables placed.one placed.run done.open_.room (keep_now e c done.open_) then_.queue placed.queue after.blame.entries noted)))
+      (placed_begun e d.proc job d.outcome heard t c.queue c.blame.entries stands aside its.nav state its.address its.initial its.task placed.one_each then_.tables placed.one placed.run (done_logged d c job done) (seen_room e c done.open_) (keep_now e c done.open_) then_.queue placed.queue after.blame.entries noted)))
       job.why made_may (done_taken d c job done) (done_found d c job done) (done_telling d c job done)
       (subst (λ (l : List (DocId × ℕ)). AreSlots (log_of e []) l) (sym (slots ∙ placed.slots)) done.slots)

@@ -1,13 +1,14 @@
 -- An order was done that neither made nor showed a document: where no request is noted for a document that is left to be discarded, the event is over.
+use Rattle.log_model.specs.Seen.{Seen}
 use Rattle.log_model.specs.declared.made.Report.TheVariants as reports
-use Rattle.coord.proofs.Asides.{IsPlain, delivered_plain}
+use Rattle.coord.proofs.Asides.{IsPlain, delivered_plain, off, seen_room}
 use Rattle.coord.proofs.Idle.{stands_then}
-use Rattle.coord.proofs.Dones.{done_aside, done_found, done_telling, keep_now}
+use Rattle.coord.proofs.Dones.{done_found, done_logged, done_read, done_seen, done_stands, done_telling, keep_now}
 use Rattle.coord.specs.Delivering.{InDone, IsDone}
 use Rattle.coord.specs.Standing.{HasActed}
 use Rattle.coord.specs.declared.coordinator.Coordinator.{Coordinator}
 use Rattle.log_model.specs.declared.job.Job.{Job}
-use Rattle.std.proofs.Common.{List, None, [], arith, eqb-true, length, refl, true, ◌==◌, ◌∷◌, ◌≡◌}
+use Rattle.std.proofs.Common.{List, None, [], arith, eqb-true, length, refl, true, ◌==◌, ◌∷◌, ◌≡◌, subst, sym}
 use Rattle.tab_acts.proofs.Told.{told_acts}
 use Rattle.tab_stands.specs.Delivering.{IsQuietTask}
 use Rattle.tab_stands.specs.Standing as tab
@@ -15,7 +16,7 @@ use Rattle.tab_stands.specs.Standing as tab
 module _ (d : InDone) (c : Coordinator) (job : Job) (done : IsDone d c job) (quiet : IsQuietTask job.task) (clear : c.blame.entries ≡ []) where
   its : tab.HasActed tab.none_in_check d.event [] c.tables c.queue c.blame.entries
   its =
-      told_acts d.event d.proc job d.outcome done.delivery c.tables c.queue c.blame.entries done.open_.stands.stands (done_aside d c job done) quiet done.open_.room (keep_now d.event c done.open_) clear
+      told_acts d.event d.proc job d.outcome (done_seen d c job done) c.tables c.queue c.blame.entries (done_stands d c job done) (done_read d c job done) quiet (done_logged d c job done) (seen_room d.event c done.open_) (keep_now d.event c done.open_) clear
 
   at : IsPlain d.event []
   at = delivered_plain d.event c done.open_ d.proc (reports.Done job d.outcome None) done.delivery
@@ -23,7 +24,7 @@ module _ (d : InDone) (c : Coordinator) (job : Job) (done : IsDone d c job) (qui
   pub quiet_acts : HasActed d.event [] c
   quiet_acts =
       record {
-        stands = stands_then d.event c done.open_ [] its.stands at (done_found d c job done) (done_telling d c job done) done.slots;
+        stands = stands_then d.event c done.open_ [] (subst (λ (x : Seen). tab.StandsFor tab.none_in_check x c.tables c.queue c.blame.entries) (sym at.same) its.stands) its.lasts at (done_found d c job done) (done_telling d c job done) done.slots;
         header = done.open_.header;
         passes = its.passes;
         off = λ req change never. absurd never;

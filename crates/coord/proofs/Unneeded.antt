@@ -1,44 +1,40 @@
 -- A document that nothing needs was made for no request: it is discarded, and the tab may be brought to rest.
 use Rattle.coord.proofs.Asides.{one_goes}
 use Rattle.unasked.proofs.Nows.{sent_goes}
-use Rattle.coord.proofs.Dones.{done_aside, done_found, done_taken, done_telling}
+use Rattle.coord.proofs.Dones.{done_found, done_logged, done_read, done_seen, done_stands, done_taken, done_telling}
 use Rattle.coord.proofs.Fines.{IsFine, fine_discard, fine_moves, makes_over, one_fine, sound_over}
 use Rattle.coord.proofs.Placed.{Makes, makes_of}
 use Rattle.coord.proofs.Slots.{rows_slots}
 use Rattle.coord.specs.Delivering.{InDone, IsDone, made_in}
 use Rattle.coord.specs.Standing.{IsToSettle}
 use Rattle.coord.specs.declared.coordinator.Coordinator.{Coordinator}
-use Rattle.seen_facts.proofs.Desk.Stays.{NoDeath}
 use Rattle.seen_facts.specs.Hang.Members.{Has}
-use Rattle.log_model.specs.Seen.{Asked, Document, Seen, desk_of, request_in}
+use Rattle.log_model.specs.Seen.{Asked, Document, Seen, request_in}
 use Rattle.log_model.specs.declared.job.Job.{Job}
 use Rattle.log_model.specs.declared.job.Task.{Task}
-use Rattle.log_model.specs.declared.made.Report.{Report}
 use Rattle.log_model.specs.declared.row_kind.RowKind.{RowKind}
 use Rattle.move_queue.specs.Queue.{Queue}
 use Rattle.seen_laws.specs.InEvent.{InEvent, log_of, now_of, later_of}
 use Rattle.seen_laws.specs.Sending.{leads}
 use Rattle.slot_facts.specs.Slots.{AreSlots}
 use Rattle.std.proofs.Common.{Bool, List, None, Option, [], ap, cond, false, refl, subst, sym, true, ℕ, ◌++◌, ◌==◌, ◌∙◌, ◌∷◌, ◌≡◌}
-use Rattle.std.specs.Prelude.{option_map, slice_get}
+use Rattle.std.specs.Prelude.{option_map}
 use Rattle.tab_doors.specs.Orders.{order_to}
 use Rattle.tab_doors.specs.declared.tables.Tables.{Tables}
 use Rattle.tab_ids.specs.declared.DocId.{DocId}
-use Rattle.tab_ids.specs.declared.ProcId.{ProcId}
 use Rattle.tab_ids.specs.declared.ReqId.{ReqId}
 use Rattle.tab_ids.specs.declared.StateId.{StateId}
 use Rattle.tab_loads.specs.Loading.{pass_of}
 use Rattle.tab_stands.proofs.Dones.{AsksNone, did, did_now, did_requests}
-use Rattle.tab_stands.proofs.EpochRows.{own_under}
 use Rattle.tab_stands.proofs.Orders.{makes_first, sound_first}
 use Rattle.tab_stands.proofs.PassedOn.{KeepsWhat, serve_on}
 use Rattle.tab_stands.proofs.Placed.{made_then}
 use Rattle.tab_stands.proofs.Reports.{told_causes}
 use Rattle.tab_stands.proofs.Unmade.{made_at}
-use Rattle.tab_stands.specs.Delivering.{IsMakeTask}
+use Rattle.tab_stands.specs.Delivering.{IsMakeTask, IsSeenDelivery}
 use Rattle.tab_stands.specs.Offs.{AreShownUnder}
 use Rattle.tab_stands.specs.PassedOn.{IsReady, MakesServe, MayServe, OrdersAreSound}
-use Rattle.tab_stands.specs.Standing.{StandsFor, StartsUnasked, none_in_check}
+use Rattle.tab_stands.specs.Standing.{IsOwnRead, StandsFor, none_in_check, seen_start}
 use Rattle.tab_unneeded.proofs.Strays.{unneeded_is}
 use Rattle.tab_unneeded.specs.Made.{IsMadeUnneeded}
 use Rattle.tab_unneeded.specs.Telling.{is_unneeded_in}
@@ -56,16 +52,19 @@ module _ (d : InDone) (c : Coordinator) (job : Job) (done : IsDone d c job) (sta
   e = d.event
 
   abbrev s : Seen
-  s = e.start
+  s = seen_start e
 
   abbrev t : Tables
   t = c.tables
 
   abbrev stands : StandsFor none_in_check s c.tables c.queue c.blame.entries
-  stands = done.open_.stands.stands
+  stands = done_stands d c job done
 
-  aside : StartsUnasked e
-  aside = done_aside d c job done
+  aside : IsOwnRead e
+  aside = done_read d c job done
+
+  heard : IsSeenDelivery e d.proc (reports.Done job d.outcome None)
+  heard = done_seen d c job done
 
   abbrev its : Makes job state
   its = makes_of job state is_make
@@ -74,7 +73,7 @@ module _ (d : InDone) (c : Coordinator) (job : Job) (done : IsDone d c job) (sta
   made_unneeded unasked tells =
       record {
         aside = aside;
-        tells = done.delivery;
+        tells = heard;
         nav = its.nav;
         address = its.address;
         initial = its.initial;
@@ -82,46 +81,39 @@ module _ (d : InDone) (c : Coordinator) (job : Job) (done : IsDone d c job) (sta
         doc_is = refl;
         why_is = refl;
         unasked = unasked;
-        stray = unneeded_is e d.proc job d.outcome done.delivery t c.queue c.blame.entries stands aside its.nav state its.address its.initial its.task tells;
+        stray = unneeded_is e d.proc job d.outcome heard t c.queue c.blame.entries stands aside its.nav state its.address its.initial its.task tells;
       }
 
   -- ---- what goes on over the event's own row
 
   abbrev told : Seen
-  told = did e d.proc job d.outcome done.delivery t c.queue c.blame.entries stands aside
+  told = did e d.proc job d.outcome heard t c.queue c.blame.entries stands aside
 
   now : now_of e [] ≡ told
-  now = did_now e d.proc job d.outcome done.delivery t c.queue c.blame.entries stands aside
+  now = did_now e d.proc job d.outcome heard t c.queue c.blame.entries stands aside
 
   same : told.requests ≡ s.requests
   same =
-      did_requests e d.proc job d.outcome done.delivery t c.queue c.blame.entries stands aside (subst (λ (k : Task). AsksNone k) (sym its.task) tt)
+      did_requests e d.proc job d.outcome heard t c.queue c.blame.entries stands aside (subst (λ (k : Task). AsksNone k) (sym its.task) tt)
 
   leads_own : leads e.own ≡ true
-  leads_own = ap (λ (k : RowKind). leads k) done.delivery.own
+  leads_own = ap (λ (k : RowKind). leads k) heard.own
 
   serves : (req : ReqId) → MayServe s req → MayServe (now_of e []) req
   serves req may =
       subst (λ (x : Seen). MayServe x req) (sym now)
-      (serve_on s told req (told_causes e d.proc done.delivery.by_coord done.delivery.own t c.queue c.blame.entries stands aside (reports.Done job d.outcome None) done.delivery.first same) may)
+      (serve_on s told req (told_causes e d.proc heard.by_coord heard.own t c.queue c.blame.entries stands aside (reports.Done job d.outcome None) heard.first same) may)
 
   keeps : KeepsWhat s (now_of e [])
   keeps =
       subst (λ (x : Seen). KeepsWhat s x) (sym now) (record {
         asked = λ req q at. (q, ap (λ (l : List Asked). request_in l req) same ∙ at, refl);
-        homes = λ doc x found. (made_at job.doc x, made_then e d.proc job d.outcome done.delivery t c.queue c.blame.entries stands aside its.nav state its.address its.initial its.task doc ∙ ap (λ (o : Option Document). option_map (λ (y : Document). made_at job.doc y) o) found, nav_same x (x.nr.0 == job.doc.0));
+        homes = λ doc x found. (made_at job.doc x, made_then e d.proc job d.outcome heard t c.queue c.blame.entries stands aside its.nav state its.address its.initial its.task doc ∙ ap (λ (o : Option Document). option_map (λ (y : Document). made_at job.doc y) o) found, nav_same x (x.nr.0 == job.doc.0));
       })
     where
       nav_same : (x : Document) (b : Bool) → (let y : Document = cond b (record x { is_ready = true; is_fresh = true }) x in y).nav ≡ x.nav
       nav_same x true = refl
       nav_same x false = refl
-
-  -- no report tells of a death
-  alive : (proc : ProcId) → e.own ≡ rows.Delivered proc → NoDeath (slice_get (desk_of s proc).reports 0)
-  alive proc is =
-      let both : rows.Delivered d.proc ≡ rows.Delivered proc = sym done.delivery.own ∙ is in
-      let one : d.proc ≡ proc = cc in
-      subst (λ (p : ProcId). NoDeath (slice_get (desk_of s p).reports 0)) one (subst (λ (o : Option Report). NoDeath o) (sym done.delivery.first) tt)
 
   -- ---- so the tab may be brought to rest
 
@@ -140,7 +132,7 @@ module _ (d : InDone) (c : Coordinator) (job : Job) (done : IsDone d c job) (sta
         sound_over e u.running out ready.passing.work.goes whys.Start ready.passing.going.tab.asked ready.open_.may fine (sound_first e aside leads_own keeps stands.lasts.sound)
 
     shows : AreShownUnder (log_of e [])
-    shows = own_under e aside.uncut leads_own alive stands.lasts.shows
+    shows = (done_logged d c job done).lasts.shows
 
     found : AreFoundRunning (now_of e out)
     found =

@@ -26,6 +26,7 @@ use Rattle.tab_loads.specs.declared.loaded.Loaded.{Loaded}
 use Rattle.tab_stands.specs.Offs.{AreShownUnder}
 use Rattle.tab_stands.specs.PassedOn.{IsReady, MakesServe, OrdersAreSound, moved_by}
 use Rattle.tab_stands.specs.Standing.{HasRoomFor, IsTakenUp}
+use Rattle.tab_doors.specs.PassedOn.{NoneChecked}
 use Rattle.tab_stands.specs.Standing as tab
 use Rattle.log_model.specs.declared.request.Request.TheVariants as requests
 use Rattle.log_model.specs.declared.row_kind.Actor.TheVariants as actors
@@ -39,8 +40,10 @@ nobody req = false
 pub record StandsBut (s : Seen) (c : Coordinator) : Type 0 where
   pub stands : tab.StandsFor tab.none_in_check s c.tables c.queue c.blame.entries
   pub keep : c.tables.kept.keep ≡ c.header.keep
-  -- nobody was asked so far
+  pub lasts : tab.LastsInLog nobody s
+  -- nobody was asked so far, and no request has an unload check
   pub plain : unasked nobody s ≡ s
+  pub unchecked : NoneChecked c.tables.checks
   -- each fragment order on its way finds its document running as its turn comes
   pub found : AreFoundRunning s
   -- each report of a fragment order that waits tells of what was made of it

@@ -4,3 +4,4 @@ pub mod FragmentOrders
 pub mod Begun
 pub mod Applied
 pub mod Refused
+pub mod Starts

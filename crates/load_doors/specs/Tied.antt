@@ -5,12 +5,11 @@ use Rattle.seen_facts.specs.LoadTies.Tying.{TiesLoads}
 use Rattle.log_model.specs.Seen.{Seen}
 use Rattle.std.specs.Prelude.{length, ◌+◌, ◌≡◌, ◌≤◌}
 use Rattle.tab_doors.specs.Look.{look_of}
-use Rattle.tab_doors.specs.PassedOn.{NoneChecked}
 use Rattle.tab_doors.specs.Ties.{AreInitial, Holds, IsRunning}
 use Rattle.tab_doors.specs.Working.{HasGoal}
 use Rattle.tab_doors.specs.declared.tables.Tables.{Tables}
 
--- all of it: what is read of navigables, documents and the history, the traversal that runs and where it leads, initial documents, ongoing loads, kept documents and unload checks
+-- all of it: what is read of navigables, documents and the history, the traversal that runs and where it leads, initial documents, ongoing loads and kept documents
 pub record AreTied (s : Seen) (t : Tables) : Type 0 where
   pub holds : Holds (look_of s t.running) t
   pub runs : IsRunning s.requests t.running
@@ -20,5 +19,3 @@ pub record AreTied (s : Seen) (t : Tables) : Type 0 where
   pub initial : AreInitial s.initial_states t.initial.entries
   pub loads : TiesLoads s t.loads
   pub kept : t.kept.states ≡ kept_states s
-  -- no request has an unload check
-  pub checks : NoneChecked t.checks

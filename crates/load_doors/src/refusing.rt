@@ -1,5 +1,6 @@
 //! A load is refused.
 ghost use Rattle.std.specs.Prelude.{◌≡◌, ◌∷◌, [], OnOk};
+ghost use Rattle.load_doors.specs.Logged.{IsLogged};
 ghost use Rattle.load_doors.specs.Refusing.{IsDeniedLoad};
 ghost use Rattle.load_doors.specs.Tied.{AreTied};
 ghost use Rattle.log_model.specs.declared.row_kind.RowKind.TheVariants as rows;
@@ -21,6 +22,7 @@ pub fn refuse_load(
     ghost e: { InEvent }
     requires first { out.old ≡ [] }
     requires denied { IsDeniedLoad e req reason }
+    requires logged { IsLogged e _tables.now.checks }
     requires tied { AreTied (now_of e []) _tables.now }
     ensures work { OnOk result (IsAtWork e out.new _tables.now) }
     ensures out { OnOk result (out.new ≡ rows.Refused req reason ∷ []) }

@@ -1,4 +1,5 @@
 -- A document makes something of the first poke of its process, but for an edit, or the process refuses that poke: the coordinator that stood for the log stands for it still.
+use Rattle.tab_stands.proofs.Logged.{once_of}
 use Rattle.tab_facts.specs.TabWhole.Tab.{at_hand}
 use Rattle.seen_facts.proofs.Coord.Held.{held_apart, held_on, on_else, without_same}
 use Rattle.seen_facts.proofs.Coord.Unread.{next}
@@ -53,9 +54,9 @@ use Rattle.tab_ids.specs.declared.ProcId.{ProcId}
 use Rattle.tab_ids.specs.declared.ReqId.{ReqId}
 use Rattle.tab_ids.specs.declared.StateId.{StateId}
 use Rattle.tab_stands.proofs.EpochRows.{made_under, refused_under}
-use Rattle.tab_stands.proofs.PassedOn.{unstood_by, row_duly}
+use Rattle.tab_stands.proofs.PassedOn.{row_checks, row_duly, unstood_by}
 use Rattle.tab_stands.specs.PassedOn.{IsByItsOwn, LoadsMadeOwn, is_new_entry}
-use Rattle.tab_stands.specs.Standing.{HasActed, HasRoomFor, InCheck, StandsFor}
+use Rattle.tab_stands.specs.Standing.{HasIdled, HasRoomFor, InCheck, LastsInLog, StandsFor}
 use Rattle.tab_facts.proofs.TabWhole.Acting.{IsActing, not_running, unjoined, unparked}
 use Rattle.log_model.specs.declared.action.Action.TheVariants as actions
 use Rattle.log_model.specs.declared.made.What.TheVariants as whats
@@ -92,7 +93,7 @@ theirs_else s n req no_load others own homes theirs r q made found load makes = 
         let old = own q (ap (λ (x : ReqId). request_in n.requests x) (sym one) ∙ found) in
         let never : true ≡ false = sym (ap is_load old.2 ∙ load) ∙ no_load old.0 old.1 in absurd cc
 
-module _ (e : InEvent) (t : Tables) (queue : Queue) (blame : List (StateId × ReqId)) {check : InCheck} (stands : StandsFor check e.start t queue blame) (room : HasRoomFor e.start) (proc : ProcId) (poke : Poke) (first : slice_get (desk_of e.start proc).input 0 ≡ Some poke) where
+module _ (e : InEvent) (t : Tables) (queue : Queue) (blame : List (StateId × ReqId)) {check : InCheck} (stands : StandsFor check e.start t queue blame) (lasts : LastsInLog e.checking e.start) (room : HasRoomFor e.start) (proc : ProcId) (poke : Poke) (first : slice_get (desk_of e.start proc).input 0 ≡ Some poke) where
   abbrev s : Seen
   s = e.start
 
@@ -206,27 +207,35 @@ module _ (e : InEvent) (t : Tables) (queue : Queue) (blame : List (StateId × Re
           let one : its_asked.q ≡ q = some_same (sym its_asked.there ∙ at) in
           goes_by view its_asked.nav poke.action what delta makes (ap delta_of (sym its_asked.what) ∙ ap (λ (x : Asked). delta_of x.what) one ∙ asks)
 
+      pub made_lasts : LastsInLog e.checking made_
+      made_lasts =
+          record {
+            checks = row_checks e.checking s (record { event = s.events; actor = actors.Proc proc; row = rows.Made proc its_made }) tt tt lasts.checks;
+            shows = made_under s s.events (actors.Proc proc) proc its_made lasts.shows;
+            duly = row_duly s s.events (actors.Proc proc) lasts.duly (rows.Made proc its_made) tt;
+          }
+
       -- what it made is no edit
       pub made_stands : IsNoEdit what → StandsFor check (next e.start e.start.events (actors.Proc proc) (rows.Made proc (made_for view poke.req what))) t queue blame
       made_stands no_edit =
-          left_stands e t queue blame stands room made_ (but_of t.running s made_ (made_left t.running s s.events (actors.Proc proc) proc its_made)) made_told
+          left_stands s t queue blame stands room made_ (but_of t.running s made_ (made_left t.running s s.events (actors.Proc proc) proc its_made)) made_told
           (acted_between t.kept.keep t.running s proc stands.between poke first d view what acting no_edit)
           (made_lasting s s.events (actors.Proc proc) stands.lasts.lasting proc its_made d view to_act.there has runs refl goes)
           (λ F. orders_after F s s.events (actors.Proc proc) (rows.Made proc its_made) tt (λ x is. cc))
           (theirs_else s made_ poke.req no_load (λ r apart. on_else s.requests poke.req (λ (x : Asked). record x { made = Some its_made }) r apart) own_was homes stands.lasts.made)
           (were_shown s s.events (actors.Proc proc) stands.lasts.were (rows.Made proc its_made) tt)
-          (made_under s s.events (actors.Proc proc) proc its_made stands.lasts.shows)
-          (row_duly s s.events (actors.Proc proc) stands.lasts.duly (rows.Made proc its_made) tt)
+          (once_of made_lasts.shows)
         where
           own_was : (q : Asked) → request_in made_.requests poke.req ≡ Some q → (old : Asked) × (request_in s.requests poke.req ≡ Some old) × (old.what ≡ q.what)
           own_was q at =
               let same : record its_asked.q { made = Some its_made } ≡ q = some_same (sym (ap (λ (o : Option Asked). option_map (λ (x : Asked). record x { made = Some its_made }) o) its_asked.there) ∙ sym (on_itself s.requests poke.req (λ (x : Asked). record x { made = Some its_made })) ∙ at) in
               (its_asked.q, its_asked.there, ap (λ (x : Asked). x.what) same)
 
-      pub made_acts : IsNoEdit what → e.before ≡ [] → e.actor ≡ actors.Proc proc → e.event ≡ e.start.events → e.own ≡ rows.Made proc (made_for view poke.req what) → HasActed check e [] t queue blame
+      pub made_acts : IsNoEdit what → e.before ≡ [] → e.actor ≡ actors.Proc proc → e.event ≡ e.start.events → e.own ≡ rows.Made proc (made_for view poke.req what) → HasIdled check e [] t queue blame
       made_acts no_edit uncut by event own =
           alone_acts e (actors.Proc proc) (rows.Made proc its_made) by own uncut event t queue blame
           (subst (λ (n : ℕ). StandsFor check (next e.start n (actors.Proc proc) (rows.Made proc its_made)) t queue blame) (sym event) (made_stands no_edit))
+          (subst (λ (n : ℕ). LastsInLog e.checking (next e.start n (actors.Proc proc) (rows.Made proc its_made))) (sym event) made_lasts)
           (made_passes e.header s proc poke its_asked.q its_asked.nav d view what to_act makes no_edit)
 
     -- ---- its address is none for the document
@@ -296,20 +305,27 @@ module _ (e : InEvent) (t : Tables) (queue : Queue) (blame : List (StateId × Re
           unstood = λ off away. unstood_by s (record { event = e.event; actor = actors.Proc proc; row = rows.Refused poke.req reason }) refl away off;
         }
 
+    refused_lasts : LastsInLog e.checking refused
+    refused_lasts =
+        record {
+          checks = row_checks e.checking s (record { event = e.event; actor = actors.Proc proc; row = rows.Refused poke.req reason }) tt tt lasts.checks;
+          shows = refused_under s e.event (actors.Proc proc) poke.req reason lasts.shows;
+          duly = row_duly s e.event (actors.Proc proc) lasts.duly (rows.Refused poke.req reason) tt;
+        }
+
     pub refused_stands : StandsFor check (next e.start e.event (actors.Proc proc) (rows.Refused poke.req reason)) t queue blame
     refused_stands =
-        left_stands e t queue blame stands room refused (but_of t.running s refused refused_left) refused_told
+        left_stands s t queue blame stands room refused (but_of t.running s refused refused_left) refused_told
         (refused_between t.kept.keep t.running s proc stands.between poke first e.event reason)
         (refused_lasting s e.event (actors.Proc proc) stands.lasts.lasting poke.req reason)
         (λ F. orders_after F s e.event (actors.Proc proc) (rows.Refused poke.req reason) tt (λ x is. cc))
         (theirs_else s refused poke.req no_load (λ r apart. on_else s.requests poke.req refuse r apart) (λ q at. (its_asked.q, its_asked.there, ap (λ (x : Asked). x.what) (then_is q at))) (λ doc d found. (d, found, refl)) stands.lasts.made)
         (were_shown s e.event (actors.Proc proc) stands.lasts.were (rows.Refused poke.req reason) tt)
-        (refused_under s e.event (actors.Proc proc) poke.req reason stands.lasts.shows)
-        (row_duly s e.event (actors.Proc proc) stands.lasts.duly (rows.Refused poke.req reason) tt)
+        (once_of refused_lasts.shows)
 
-    pub refused_acts : e.before ≡ [] → e.actor ≡ actors.Proc proc → e.event ≡ e.start.events → e.own ≡ rows.Refused poke.req reason → Passes e.header (record { start = e.start; now = e.start; done = []; later = [] }) (record { event = e.start.events; actor = actors.Proc proc; row = rows.Refused poke.req reason }) → HasActed check e [] t queue blame
+    pub refused_acts : e.before ≡ [] → e.actor ≡ actors.Proc proc → e.event ≡ e.start.events → e.own ≡ rows.Refused poke.req reason → Passes e.header (record { start = e.start; now = e.start; done = []; later = [] }) (record { event = e.start.events; actor = actors.Proc proc; row = rows.Refused poke.req reason }) → HasIdled check e [] t queue blame
     refused_acts uncut by event own passes =
-        alone_acts e (actors.Proc proc) (rows.Refused poke.req reason) by own uncut event t queue blame refused_stands passes
+        alone_acts e (actors.Proc proc) (rows.Refused poke.req reason) by own uncut event t queue blame refused_stands refused_lasts passes
 
   -- its document is gone, or doesn't run
   pub no_document_passes : is_running e.start poke.doc ≡ false → Passes e.header (record { start = e.start; now = e.start; done = []; later = [] }) (record { event = e.start.events; actor = actors.Proc proc; row = rows.Refused poke.req denials.NoDocument })

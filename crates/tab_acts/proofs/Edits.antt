@@ -1,4 +1,5 @@
 -- A document edits itself on the first poke of its process: that is applied in the same event, and the coordinator that stood for the log stands for it still.
+use Rattle.tab_stands.proofs.Logged.{once_of}
 use Rattle.tab_doors.proofs.Uncut.{uncut_pass}
 use Rattle.log_model.proofs.Refl.{nat_eq_refl}
 use Rattle.log_model.specs.After.{after, is_new_step}
@@ -56,9 +57,9 @@ use Rattle.tab_ids.specs.declared.ReqId.{ReqId}
 use Rattle.tab_ids.specs.declared.StateId.{StateId}
 use Rattle.tab_stands.proofs.Coming.{bare}
 use Rattle.tab_stands.proofs.EpochRows.{coord_under, made_under}
-use Rattle.tab_stands.proofs.PassedOn.{unstood_by, FitsWell, change_duly, row_duly}
+use Rattle.tab_stands.proofs.PassedOn.{FitsWell, change_duly, row_checks, row_duly, unstood_by}
 use Rattle.tab_stands.specs.PassedOn.{LoadsMadeOwn}
-use Rattle.tab_stands.specs.Standing.{HasActed, HasRoomFor, InCheck, StandsFor}
+use Rattle.tab_stands.specs.Standing.{HasIdled, HasRoomFor, InCheck, LastsInLog, StandsFor}
 
 some_same : {A : Type 0} {a b : A} → (let o : Option A = Some a in o) ≡ Some b → a ≡ b
 some_same e = cc
@@ -122,7 +123,7 @@ module _ (header : Header) (s : Seen) (proc : ProcId) (poke : Poke) (q : Asked) 
 
 -- ---- the coordinator
 
-module _ (e : InEvent) (t : Tables) (queue : Queue) (blame : List (StateId × ReqId)) {check : InCheck} (stands : StandsFor check e.start t queue blame) (room : HasRoomFor e.start) (proc : ProcId) (poke : Poke) (first : slice_get (desk_of e.start proc).input 0 ≡ Some poke) (d : Document) (view : View) (found : document_of e.start poke.doc ≡ Some d) (has : d.view ≡ Some view) (runs : view.running ≡ true) (makes : made_by view poke.action ≡ Some whats.Edit) where
+module _ (e : InEvent) (t : Tables) (queue : Queue) (blame : List (StateId × ReqId)) {check : InCheck} (stands : StandsFor check e.start t queue blame) (lasts : LastsInLog e.checking e.start) (room : HasRoomFor e.start) (proc : ProcId) (poke : Poke) (first : slice_get (desk_of e.start proc).input 0 ≡ Some poke) (d : Document) (view : View) (found : document_of e.start poke.doc ≡ Some d) (has : d.view ≡ Some view) (runs : view.running ≡ true) (makes : made_by view poke.action ≡ Some whats.Edit) (off : e.checking poke.req ≡ false) where
   abbrev s : Seen
   s = e.start
 
@@ -131,7 +132,7 @@ module _ (e : InEvent) (t : Tables) (queue : Queue) (blame : List (StateId × Re
 
   acting : IsActing t.running s proc stands.between.tab stands.between.flows poke first d view whats.Edit
   acting =
-      acts.acting e t queue blame stands room proc poke first d view found has runs whats.Edit makes
+      acts.acting e t queue blame stands lasts room proc poke first d view found has runs whats.Edit makes
 
   abbrev edits : Seen
   edits =
@@ -150,14 +151,14 @@ module _ (e : InEvent) (t : Tables) (queue : Queue) (blame : List (StateId × Re
 
   -- ---- the request of the poke
 
-  abbrev asked : acts.Asks e t queue blame stands room proc poke first
-  asked = acts.its_asked e t queue blame stands room proc poke first
+  abbrev asked : acts.Asks e t queue blame stands lasts room proc poke first
+  asked = acts.its_asked e t queue blame stands lasts room proc poke first
 
   to_act : IsToAct s proc poke asked.q asked.nav d view
-  to_act = acts.to_act e t queue blame stands room proc poke first d view found has runs
+  to_act = acts.to_act e t queue blame stands lasts room proc poke first d view found has runs
 
   unheld : has_req s.parked poke.req ≡ false
-  unheld = acts.unheld e t queue blame stands room proc poke first
+  unheld = acts.unheld e t queue blame stands lasts room proc poke first
 
   abbrev make : Asked → Asked
   make x = record x { made = Some its_made }
@@ -224,7 +225,7 @@ module _ (e : InEvent) (t : Tables) (queue : Queue) (blame : List (StateId × Re
   told : StaysTold s n
   told =
       record {
-        sights = ap (λ (l : List Document). map sight l) documents_same ∙ acts.sights e t queue blame stands room proc poke first d view found has runs whats.Edit makes;
+        sights = ap (λ (l : List Document). map sight l) documents_same ∙ acts.sights e t queue blame stands lasts room proc poke first d view found has runs whats.Edit makes;
         ways = reads bare (λ x. refl) (λ x. refl) (λ x. refl) (λ x. refl);
         changes = changes;
         held = held_on _ s.parked poke.req took (λ x. refl) ∙ held_on _ s.parked poke.req with_change (λ x. refl) ∙ held_on edits.requests s.parked poke.req apply (λ x. refl) ∙ held_apart s.requests s.parked poke.req make unheld;
@@ -241,16 +242,16 @@ module _ (e : InEvent) (t : Tables) (queue : Queue) (blame : List (StateId × Re
 
   homes : (doc : DocId) (x : Document) → document_of s doc ≡ Some x → (new : Document) × (document_of n doc ≡ Some new) × (new.nav ≡ x.nav)
   homes doc x at =
-      let its = acts.homes e t queue blame stands room proc poke first d view found has runs whats.Edit makes doc x at in
+      let its = acts.homes e t queue blame stands lasts room proc poke first d view found has runs whats.Edit makes doc x at in
       (its.0, ap (λ (l : List Document). find (λ (y : Document). y.nr.0 == doc.0) l) documents_same ∙ its.1, its.2)
 
   lasting : AreLasting n
   lasting =
-      edited_lasting edits s.events (actors.Proc proc) (made_lasting s s.events (actors.Proc proc) stands.lasts.lasting proc its_made d view to_act.there has runs refl (acts.goes e t queue blame stands room proc poke first d view found has runs whats.Edit makes)) poke.req
+      edited_lasting edits s.events (actors.Proc proc) (made_lasting s s.events (actors.Proc proc) stands.lasts.lasting proc its_made d view to_act.there has runs refl (acts.goes e t queue blame stands lasts room proc poke first d view found has runs whats.Edit makes)) poke.req
 
   theirs : LoadsMadeOwn n
   theirs =
-      acts.theirs_else s n poke.req (acts.no_load e t queue blame stands room proc poke first) others own_was homes stands.lasts.made
+      acts.theirs_else s n poke.req (acts.no_load e t queue blame stands lasts room proc poke first) others own_was homes stands.lasts.made
     where
       own_was : (q : Asked) → request_in n.requests poke.req ≡ Some q → (old : Asked) × (request_in s.requests poke.req ≡ Some old) × (old.what ≡ q.what)
       own_was q at = (asked.q, asked.there, ap (λ (x : Asked). x.what) (some_same (sym there_then ∙ at)))
@@ -266,14 +267,23 @@ module _ (e : InEvent) (t : Tables) (queue : Queue) (blame : List (StateId × Re
         then_sound = stands.between.tab.sound;
       }
 
+  edit_lasts : LastsInLog e.checking n
+  edit_lasts =
+      record {
+        checks =
+            row_checks e.checking edits (record { event = s.events; actor = actors.Proc proc; row = rows.Applied poke.req kinds.Edit }) off tt
+            (row_checks e.checking s (record { event = s.events; actor = actors.Proc proc; row = rows.Made proc its_made }) tt tt lasts.checks);
+        shows = coord_under edits s.events (actors.Proc proc) (rows.Applied poke.req kinds.Edit) tt (record { start = s; now = edits; done = []; later = [] }) refl refl (made_under s s.events (actors.Proc proc) proc its_made lasts.shows);
+        duly = change_duly edits s.events (actors.Proc proc) (row_duly s s.events (actors.Proc proc) lasts.duly (rows.Made proc its_made) tt) poke.req kinds.Edit edit_fits tt;
+      }
+
   edit_stands : StandsFor check n t queue blame
   edit_stands =
-      left_stands e t queue blame stands room n (but_of t.running s n (edited_left t.kept.keep t.running s proc stands.between poke first d view acting)) told
+      left_stands s t queue blame stands room n (but_of t.running s n (edited_left t.kept.keep t.running s proc stands.between poke first d view acting)) told
       (edited_between t.kept.keep t.running s proc stands.between poke first d view acting) lasting
       (λ F are. orders_after F edits s.events (actors.Proc proc) (rows.Applied poke.req kinds.Edit) tt (λ x is. cc) (orders_after F s s.events (actors.Proc proc) (rows.Made proc its_made) tt (λ x is. cc) are)) theirs
       (were_shown edits s.events (actors.Proc proc) (were_shown s s.events (actors.Proc proc) stands.lasts.were (rows.Made proc its_made) tt) (rows.Applied poke.req kinds.Edit) tt)
-      (coord_under edits s.events (actors.Proc proc) (rows.Applied poke.req kinds.Edit) tt (record { start = s; now = edits; done = []; later = [] }) refl refl (made_under s s.events (actors.Proc proc) proc its_made stands.lasts.shows))
-      (change_duly edits s.events (actors.Proc proc) (row_duly s s.events (actors.Proc proc) stands.lasts.duly (rows.Made proc its_made) tt) poke.req kinds.Edit edit_fits tt)
+      (once_of edit_lasts.shows)
 
   -- ---- the event
 
@@ -301,10 +311,11 @@ module _ (e : InEvent) (t : Tables) (queue : Queue) (blame : List (StateId × Re
   abbrev out : List RowKind
   out = rows.Applied poke.req kinds.Edit ∷ []
 
-  pub edit_acts : e.before ≡ [] → e.actor ≡ actors.Proc proc → e.event ≡ e.start.events → e.own ≡ rows.Made proc (made_for view poke.req whats.Edit) → HasActed check e (rows.Applied poke.req kinds.Edit ∷ []) t queue blame
+  pub edit_acts : e.before ≡ [] → e.actor ≡ actors.Proc proc → e.event ≡ e.start.events → e.own ≡ rows.Made proc (made_for view poke.req whats.Edit) → HasIdled check e (rows.Applied poke.req kinds.Edit ∷ []) t queue blame
   edit_acts uncut by event own =
       record {
         stands = subst (λ (x : Seen). StandsFor check x t queue blame) (sym came) edit_stands;
+        lasts = subst (λ (x : Seen). LastsInLog e.checking x) (sym came) edit_lasts;
         passes =
             uncut_pass e out [] uncut (subst (λ (r : LogRow). EachPass (start_of e) (r ∷ map (row_of e) out) []) (sym (own_row e (actors.Proc proc) (rows.Made proc its_made) by own))
             (subst (λ (a : Actor). EachPass (start_of e) ((let r : LogRow = record { event = e.event; actor = actors.Proc proc; row = rows.Made proc its_made } in r) ∷ (let r : LogRow = record { event = e.event; actor = a; row = rows.Applied poke.req kinds.Edit } in r) ∷ []) []) (sym by)

@@ -14,7 +14,7 @@ use Rattle.std.proofs.Common.{List, [], ap, subst, sym, ℕ, ◌∙◌, ◌∷�
 use Rattle.tab_doors.specs.declared.tables.Tables.{Tables}
 use Rattle.tab_ids.specs.declared.ReqId.{ReqId}
 use Rattle.tab_ids.specs.declared.StateId.{StateId}
-use Rattle.tab_stands.specs.Standing.{HasActed, InCheck, StandsFor}
+use Rattle.tab_stands.specs.Standing.{HasIdled, InCheck, LastsInLog, StandsFor}
 
 module _ (e : InEvent) (actor : Actor) (kind : RowKind) (by : e.actor ≡ actor) (own : e.own ≡ kind) where
   pub own_row : row_of e e.own ≡ record { event = e.event; actor = actor; row = kind }
@@ -31,10 +31,11 @@ module _ (e : InEvent) (actor : Actor) (kind : RowKind) (by : e.actor ≡ actor)
 
   -- an event of this row alone
   module _ (uncut : e.before ≡ []) (event : e.event ≡ e.start.events) where
-    pub alone_acts : (t : Tables) (queue : Queue) (blame : List (StateId × ReqId)) → {check : InCheck} → StandsFor check (next e.start e.event actor kind) t queue blame → Passes e.header (record { start = e.start; now = e.start; done = []; later = [] }) (record { event = e.start.events; actor = actor; row = kind }) → HasActed check e [] t queue blame
-    alone_acts t queue blame {check} stands passes =
+    pub alone_acts : (t : Tables) (queue : Queue) (blame : List (StateId × ReqId)) → {check : InCheck} → StandsFor check (next e.start e.event actor kind) t queue blame → LastsInLog e.checking (next e.start e.event actor kind) → Passes e.header (record { start = e.start; now = e.start; done = []; later = [] }) (record { event = e.start.events; actor = actor; row = kind }) → HasIdled check e [] t queue blame
+    alone_acts t queue blame {check} stands lasts passes =
         record {
           stands = subst (λ (s : Seen). StandsFor check s t queue blame) (sym (log_is uncut)) stands;
+          lasts = subst (λ (s : Seen). LastsInLog e.checking s) (sym (log_is uncut)) lasts;
           passes =
               uncut_pass e [] [] uncut (subst (λ (r : LogRow). EachPass (start_of e) (r ∷ []) []) (sym own_row)
               (subst (λ (i : ℕ). EachPass (start_of e) ((let r : LogRow = record { event = i; actor = actor; row = kind } in r) ∷ []) []) (sym event) (passes, tt)));

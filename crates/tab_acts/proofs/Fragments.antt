@@ -1,4 +1,5 @@
 -- A process finishes an order that sends a document to a fragment, and the document makes an entry of it: the coordinator that stood for the log stands for it still.
+use Rattle.tab_stands.proofs.Logged.{once_of}
 use Rattle.tab_doors.proofs.Uncut.{uncut_pass}
 use Rattle.seen_facts.proofs.Coord.Held.{held_apart, on_else}
 use Rattle.seen_facts.proofs.Coord.Unread.{next}
@@ -58,9 +59,9 @@ use Rattle.tab_ids.specs.declared.ProcId.{ProcId}
 use Rattle.tab_ids.specs.declared.ReqId.{ReqId}
 use Rattle.tab_ids.specs.declared.StateId.{StateId}
 use Rattle.tab_stands.proofs.EpochRows.{finished_under, made_under}
-use Rattle.tab_stands.proofs.PassedOn.{unstood_by, finished_duly, row_duly}
+use Rattle.tab_stands.proofs.PassedOn.{finished_duly, row_checks, row_duly, unstood_by}
 use Rattle.tab_stands.specs.PassedOn.{IsByItsOwn, IsOfItsLoad, IsSoundTask, LoadsMadeOwn, is_new_entry}
-use Rattle.tab_stands.specs.Standing.{HasActed, HasRoomFor, InCheck, StandsFor}
+use Rattle.tab_stands.specs.Standing.{HasIdled, HasRoomFor, InCheck, LastsInLog, StandsFor}
 use Rattle.tab_facts.proofs.TabWhole.Fragments.{IsToFragment}
 use Rattle.tab_facts.proofs.TabWhole.Working.{in_hand_lives}
 use Rattle.seen_facts.specs.Transit.Orders.{IsOutcomeOf}
@@ -112,7 +113,7 @@ open_load s req w load = by_what w.q.what refl load
     by_what (requests.Poke nav action) is never = absurd cc
     by_what (requests.Reload nav) is never = absurd cc
 
-module _ (e : InEvent) (t : Tables) (queue : Queue) (blame : List (StateId × ReqId)) {check : InCheck} (stands : StandsFor check e.start t queue blame) (room : HasRoomFor e.start) (proc : ProcId) (order : Order) (req : ReqId) (mode : Mode) (address : List ℕ) (d : Document) (view : View) (to : IsToFragment e.start proc order req mode address d view) where
+module _ (e : InEvent) (t : Tables) (queue : Queue) (blame : List (StateId × ReqId)) {check : InCheck} (stands : StandsFor check e.start t queue blame) (lasts : LastsInLog e.checking e.start) (room : HasRoomFor e.start) (proc : ProcId) (order : Order) (req : ReqId) (mode : Mode) (address : List ℕ) (d : Document) (view : View) (to : IsToFragment e.start proc order req mode address d view) where
   abbrev s : Seen
   s = e.start
 
@@ -282,15 +283,24 @@ module _ (e : InEvent) (t : Tables) (queue : Queue) (blame : List (StateId × Re
   lasting : AreLasting n
   lasting = made_lasting half e.event (actors.Proc proc) half_lasting proc made d view half_found to.has to.runs refl goes
 
+  fragment_lasts : LastsInLog e.checking n
+  fragment_lasts =
+      record {
+        checks =
+            row_checks e.checking half (record { event = e.event; actor = actors.Proc proc; row = rows.Made proc made }) tt tt
+            (row_checks e.checking s (record { event = e.event; actor = actors.Proc proc; row = rows.Finished proc order.job.nr outcomes.Fragmented }) tt tt lasts.checks);
+        shows = made_under half e.event (actors.Proc proc) proc made (finished_under s e.event (actors.Proc proc) proc order.job.nr outcomes.Fragmented lasts.shows);
+        duly = row_duly half e.event (actors.Proc proc) (finished_duly s e.event (actors.Proc proc) lasts.duly proc order outcomes.Fragmented to.in_hand (λ slot is. cc)) (rows.Made proc made) tt;
+      }
+
   pub fragment_stands : StandsFor check (next (next e.start e.event (actors.Proc proc) (rows.Finished proc order.job.nr outcomes.Fragmented)) e.event (actors.Proc proc) (rows.Made proc (made_for view req (fragment_of view mode address)))) t queue blame
   fragment_stands =
-      left_stands e t queue blame stands room n
+      left_stands s t queue blame stands room n
       (but_of t.running s n (left_twice t.running s half n (finished_left t.running s e.event (actors.Proc proc) proc order outcomes.Fragmented to.in_hand) (made_left t.running half e.event (actors.Proc proc) proc made)))
       told (fragment_made_between t.kept.keep t.running s e.event proc stands.between order req mode address d view to) lasting
       (λ F are. orders_after F half e.event (actors.Proc proc) (rows.Made proc made) tt (λ job is. cc) (orders_after F s e.event (actors.Proc proc) (rows.Finished proc order.job.nr outcomes.Fragmented) tt (λ job is. cc) are)) theirs
       (were_shown half e.event (actors.Proc proc) (were_shown s e.event (actors.Proc proc) stands.lasts.were (rows.Finished proc order.job.nr outcomes.Fragmented) tt) (rows.Made proc made) tt)
-      (made_under half e.event (actors.Proc proc) proc made (finished_under s e.event (actors.Proc proc) proc order.job.nr outcomes.Fragmented stands.lasts.shows))
-      (row_duly half e.event (actors.Proc proc) (finished_duly s e.event (actors.Proc proc) stands.lasts.duly proc order outcomes.Fragmented to.in_hand (λ slot is. cc)) (rows.Made proc made) tt)
+      (once_of fragment_lasts.shows)
 
   -- ---- the event
 
@@ -304,10 +314,11 @@ module _ (e : InEvent) (t : Tables) (queue : Queue) (blame : List (StateId × Re
       home : d.proc ≡ proc
       home = (in_hand_lives t.running s e.event proc stands.between.tab stands.between.flows order outcomes.Fragmented to.in_hand (subst (λ (k : Task). IsOutcomeOf k outcomes.Fragmented) (sym to.task) tt) tt).home d to.found
 
-  pub fragment_acts : e.before ≡ [] → e.actor ≡ actors.Proc proc → e.own ≡ rows.Finished proc order.job.nr outcomes.Fragmented → HasActed check e (rows.Made proc (made_for view req (fragment_of view mode address)) ∷ []) t queue blame
+  pub fragment_acts : e.before ≡ [] → e.actor ≡ actors.Proc proc → e.own ≡ rows.Finished proc order.job.nr outcomes.Fragmented → HasIdled check e (rows.Made proc (made_for view req (fragment_of view mode address)) ∷ []) t queue blame
   fragment_acts uncut by own =
       record {
         stands = subst (λ (x : Seen). StandsFor check x t queue blame) (sym came) fragment_stands;
+        lasts = subst (λ (x : Seen). LastsInLog e.checking x) (sym came) fragment_lasts;
         passes =
             uncut_pass e out [] uncut (subst (λ (r : LogRow). EachPass (start_of e) (r ∷ map (row_of e) out) []) (sym (own_row e (actors.Proc proc) (rows.Finished proc order.job.nr outcomes.Fragmented) by own))
             (subst (λ (a : Actor). EachPass (start_of e) ((let r : LogRow = record { event = e.event; actor = actors.Proc proc; row = rows.Finished proc order.job.nr outcomes.Fragmented } in r) ∷ (let r : LogRow = record { event = e.event; actor = a; row = rows.Made proc made } in r) ∷ []) []) (sym by)

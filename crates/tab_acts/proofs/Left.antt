@@ -32,7 +32,6 @@ use Rattle.seen_facts.proofs.Request.Readers.{SameReads}
 use Rattle.seen_facts.proofs.Rest.Again.{WasOf, was_of}
 use Rattle.seen_facts.proofs.Rest.Stands.{request_has}
 use Rattle.seen_laws.proofs.Keyed.{find_map}
-use Rattle.seen_laws.specs.InEvent.{InEvent}
 use Rattle.std.proofs.Common.{Bool, List, None, Option, Some, [], ap, arith, cond, false, inl, length, map, refl, subst, sym, true, ℕ, ◌&&◌, ◌+◌, ◌<◌, ◌==◌, ◌||◌, ◌∙◌, ◌∷◌, ◌≡◌, ◌≤◌}
 use Rattle.std.proofs.lemmas.List.{length-map, map-id}
 use Rattle.std.specs.List.{filter_map, list_any}
@@ -55,10 +54,10 @@ use Rattle.tab_ids.specs.declared.ReqId.{ReqId}
 use Rattle.tab_ids.specs.declared.StateId.{StateId}
 use Rattle.tab_stands.proofs.Coming.{IsComing, bare}
 use Rattle.tab_stands.proofs.Dones.{itself}
-use Rattle.tab_stands.proofs.PassedOn.{KeepsWhat, course_of, out_alike, queue_over, sound_on, AreLeftDuly}
+use Rattle.tab_stands.proofs.PassedOn.{KeepsWhat, course_of, out_alike, queue_over, sound_on}
 use Rattle.tab_stands.proofs.Placed.{states_alike}
 use Rattle.tab_stands.proofs.Stays.{stands_still}
-use Rattle.tab_stands.specs.Offs.{AreShownUnder}
+use Rattle.tab_stands.specs.Offs.{AreShownOnce}
 use Rattle.tab_stands.specs.PassedOn.{AreLeftStrays, HasQueue, HoldsParked, IsMake, IsReadyLoadOf, IsSoundTask, IsStray, LoadsMadeOwn, MakesServe, MayCause, MayServe, OrdersAreSound}
 use Rattle.tab_stands.specs.Standing.{HasRoomFor, InCheck, StandsFor}
 
@@ -98,10 +97,7 @@ any_map : (g : Document → Document) (test : Document → Bool) (xs : List Docu
 any_map g test [] same = refl
 any_map g test (x ∷ xs) same = rw (same x) (ap (λ (b : Bool). test x || b) (any_map g test xs same))
 
-module _ (e : InEvent) (t : Tables) (queue : Queue) (blame : List (StateId × ReqId)) {check : InCheck} (stands : StandsFor check e.start t queue blame) (room : HasRoomFor e.start) (n : Seen) (left : IsLeftBut t.running e.start n) (told : StaysTold e.start n) (between : IsBetweenChecks t.kept.keep t.running check.loads check.holds n) (lasting : AreLasting n) (rows_ : (F : Job → Type 0) → AreOrders F e.start → AreOrders F n) (theirs : LoadsMadeOwn n) (were : WereShown n) (shows : AreShownUnder n) (duly : AreLeftDuly n) where
-  abbrev s : Seen
-  s = e.start
-
+module _ (s : Seen) (t : Tables) (queue : Queue) (blame : List (StateId × ReqId)) {check : InCheck} (stands : StandsFor check s t queue blame) (room : HasRoomFor s) (n : Seen) (left : IsLeftBut t.running s n) (told : StaysTold s n) (between : IsBetweenChecks t.kept.keep t.running check.loads check.holds n) (lasting : AreLasting n) (rows_ : (F : Job → Type 0) → AreOrders F s → AreOrders F n) (theirs : LoadsMadeOwn n) (were : WereShown n) (once : AreShownOnce n.places) where
   abbrev run : Option ReqId
   run = t.running
 
@@ -263,7 +259,6 @@ module _ (e : InEvent) (t : Tables) (queue : Queue) (blame : List (StateId × Re
         initial = subst (λ (l : List StateId). AreInitial l t.initial.entries) (sym told.initial) stands.tied.initial;
         loads = loads_tied;
         kept = stands.tied.kept ∙ sym (states_alike s.documents n.documents states_kept s.kept) ∙ ap (λ (l : List DocId). filter_map (state_in n.documents) l) (sym left.kept);
-        checks = stands.tied.checks;
       }
     where
       few_then : length n.documents ≤ n.jobs + 1
@@ -437,4 +432,4 @@ module _ (e : InEvent) (t : Tables) (queue : Queue) (blame : List (StateId × Re
 
   pub left_stands : StandsFor check n t queue blame
   left_stands =
-      stands_still e t queue blame stands n comes between going tied makes sound shows duly strays_then queued parked_then
+      stands_still s t queue blame stands n comes between going tied makes sound once strays_then queued parked_then

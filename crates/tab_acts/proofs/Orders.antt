@@ -1,4 +1,5 @@
 -- A process takes up an order, or finishes one that is no fragment order: the coordinator that stood for the log stands for it still.
+use Rattle.tab_stands.proofs.Logged.{once_of}
 use Rattle.seen_facts.proofs.Coord.Unread.{next}
 use Rattle.seen_facts.specs.Coord.Leading.{held_back}
 use Rattle.seen_facts.proofs.Doc.Works.{HasNoSlot}
@@ -50,9 +51,9 @@ use Rattle.tab_ids.specs.declared.ProcId.{ProcId}
 use Rattle.tab_ids.specs.declared.ReqId.{ReqId}
 use Rattle.tab_ids.specs.declared.StateId.{StateId}
 use Rattle.tab_stands.proofs.EpochRows.{finished_under, taken_under}
-use Rattle.tab_stands.proofs.PassedOn.{unstood_by, finished_duly, row_duly, is_made}
+use Rattle.tab_stands.proofs.PassedOn.{finished_duly, is_made, row_checks, row_duly, unstood_by}
 use Rattle.tab_stands.specs.PassedOn.{IsSoundTask, LoadsMadeOwn}
-use Rattle.tab_stands.specs.Standing.{HasActed, HasRoomFor, InCheck, StandsFor}
+use Rattle.tab_stands.specs.Standing.{HasIdled, HasRoomFor, InCheck, LastsInLog, StandsFor}
 use Rattle.tab_facts.proofs.TabWhole.Working.{taken_lives, unready}
 use Rattle.seen_facts.specs.Transit.Orders.{IsOutcomeOf}
 use Rattle.log_model.specs.declared.job.Task.TheVariants as tasks
@@ -67,7 +68,7 @@ theirs_same s n same homes theirs req q made found load makes =
     let d = homes made.doc its.0.d its.0.found in
     (record { d = d.0; found = d.1; nav_is = its.0.nav_is ∙ ap (λ (x : NavId). let o : Option NavId = Some x in o) (sym d.2) }, its.1)
 
-module _ (e : InEvent) (t : Tables) (queue : Queue) (blame : List (StateId × ReqId)) {check : InCheck} (stands : StandsFor check e.start t queue blame) (room : HasRoomFor e.start) (proc : ProcId) where
+module _ (e : InEvent) (t : Tables) (queue : Queue) (blame : List (StateId × ReqId)) {check : InCheck} (stands : StandsFor check e.start t queue blame) (lasts : LastsInLog e.checking e.start) (room : HasRoomFor e.start) (proc : ProcId) where
   abbrev s : Seen
   s = e.start
 
@@ -85,18 +86,25 @@ module _ (e : InEvent) (t : Tables) (queue : Queue) (blame : List (StateId × Re
     took_told =
         record { sights = refl; ways = λ r. refl; changes = changes_kept s.requests took.requests (λ r. refl); held = refl; jobs = refl; states = refl; entries = refl; initial = refl; spent = omega arith; ended = omega arith; long = refl; step = refl; unstood = λ off away. unstood_by s (record { event = e.event; actor = actors.Proc proc; row = rows.Taken proc job.nr true dirty }) refl away off }
 
+    taken_lasts : LastsInLog e.checking took
+    taken_lasts =
+        record {
+          checks = row_checks e.checking s (record { event = e.event; actor = actors.Proc proc; row = rows.Taken proc job.nr true dirty }) tt tt lasts.checks;
+          shows = taken_under s e.event (actors.Proc proc) proc job.nr true dirty lasts.shows;
+          duly = row_duly s e.event (actors.Proc proc) lasts.duly (rows.Taken proc job.nr true dirty) tt;
+        }
+
     pub taken_stands : StandsFor check (next e.start e.event (actors.Proc proc) (rows.Taken proc job.nr true dirty)) t queue blame
     taken_stands =
-        left_stands e t queue blame stands room took (but_of t.running s took took_left) took_told (taken_between t.kept.keep t.running s e.event proc stands.between job dirty free first) (taken_lasting s e.event (actors.Proc proc) stands.lasts.lasting proc job dirty)
+        left_stands s t queue blame stands room took (but_of t.running s took took_left) took_told (taken_between t.kept.keep t.running s e.event proc stands.between job dirty free first) (taken_lasting s e.event (actors.Proc proc) stands.lasts.lasting proc job dirty)
         (λ F. orders_after F s e.event (actors.Proc proc) (rows.Taken proc job.nr true dirty) tt (λ x is. cc))
         (theirs_same s took refl (λ doc d found. (d, found, refl)) stands.lasts.made)
         (were_shown s e.event (actors.Proc proc) stands.lasts.were (rows.Taken proc job.nr true dirty) tt)
-        (taken_under s e.event (actors.Proc proc) proc job.nr true dirty stands.lasts.shows)
-        (row_duly s e.event (actors.Proc proc) stands.lasts.duly (rows.Taken proc job.nr true dirty) tt)
+        (once_of taken_lasts.shows)
 
-    pub taken_acts : (uncut : e.before ≡ []) (by : e.actor ≡ actors.Proc proc) (event : e.event ≡ e.start.events) (is_dirty : dirty ≡ holds (λ (d : Document). holds (λ (view : View). view.dirty) d.view) (document_of e.start job.doc)) (own : e.own ≡ rows.Taken proc job.nr true dirty) → HasActed check e [] t queue blame
+    pub taken_acts : (uncut : e.before ≡ []) (by : e.actor ≡ actors.Proc proc) (event : e.event ≡ e.start.events) (is_dirty : dirty ≡ holds (λ (d : Document). holds (λ (view : View). view.dirty) d.view) (document_of e.start job.doc)) (own : e.own ≡ rows.Taken proc job.nr true dirty) → HasIdled check e [] t queue blame
     taken_acts uncut by event is_dirty own =
-        alone_acts e (actors.Proc proc) (rows.Taken proc job.nr true dirty) by own uncut event t queue blame taken_stands
+        alone_acts e (actors.Proc proc) (rows.Taken proc job.nr true dirty) by own uncut event t queue blame taken_stands taken_lasts
         (subst (λ (b : Bool). Passes e.header (record { start = e.start; now = e.start; done = []; later = [] }) (record { event = e.start.events; actor = actors.Proc proc; row = rows.Taken proc job.nr true b })) (sym is_dirty)
         (taken_passes e.header s s.events proc job free first (taken_lives t.running s e.event proc stands.between.tab stands.between.flows job dirty free first)))
 
@@ -206,15 +214,22 @@ module _ (e : InEvent) (t : Tables) (queue : Queue) (blame : List (StateId × Re
             by_found (document_of s order.job.doc) refl (λ x found. unready t.running s e.event proc stands.between.tab stands.between.flows order outcome hand its bare (tasks.Populate nav state address initial) task x found)
         by_task _ task out = elim out [ ]
 
+    finished_lasts : LastsInLog e.checking did
+    finished_lasts =
+        record {
+          checks = row_checks e.checking s (record { event = e.event; actor = actors.Proc proc; row = rows.Finished proc order.job.nr outcome }) tt tt lasts.checks;
+          shows = finished_under s e.event (actors.Proc proc) proc order.job.nr outcome lasts.shows;
+          duly = finished_duly s e.event (actors.Proc proc) lasts.duly proc order outcome hand unmade;
+        }
+
     pub finished_stands : StandsFor check (next e.start e.event (actors.Proc proc) (rows.Finished proc order.job.nr outcome)) t queue blame
     finished_stands =
-        left_stands e t queue blame stands room did (but_of t.running s did did_left) did_told (finished_between t.kept.keep t.running s e.event proc stands.between order outcome hand its bare other)
+        left_stands s t queue blame stands room did (but_of t.running s did did_left) did_told (finished_between t.kept.keep t.running s e.event proc stands.between order outcome hand its bare other)
         (finished_lasting s e.event (actors.Proc proc) stands.lasts.lasting stands.between.tab.desks proc order outcome)
         (λ F. orders_after F s e.event (actors.Proc proc) (rows.Finished proc order.job.nr outcome) tt (λ x is. cc))
         (theirs_same s did requests_same homes stands.lasts.made)
         (were_shown s e.event (actors.Proc proc) stands.lasts.were (rows.Finished proc order.job.nr outcome) tt)
-        (finished_under s e.event (actors.Proc proc) proc order.job.nr outcome stands.lasts.shows)
-        (finished_duly s e.event (actors.Proc proc) stands.lasts.duly proc order outcome hand unmade)
+        (once_of finished_lasts.shows)
 
     -- ---- it passes, where no page has a handler
 
@@ -251,6 +266,6 @@ module _ (e : InEvent) (t : Tables) (queue : Queue) (blame : List (StateId × Re
           suits = rw hand done_.slotted;
         }
 
-    pub finished_acts : HasNoPages e.header → e.before ≡ [] → e.actor ≡ actors.Proc proc → e.event ≡ e.start.events → e.own ≡ rows.Finished proc order.job.nr outcome → HasActed check e [] t queue blame
+    pub finished_acts : HasNoPages e.header → e.before ≡ [] → e.actor ≡ actors.Proc proc → e.event ≡ e.start.events → e.own ≡ rows.Finished proc order.job.nr outcome → HasIdled check e [] t queue blame
     finished_acts pages uncut by event own =
-        alone_acts e (actors.Proc proc) (rows.Finished proc order.job.nr outcome) by own uncut event t queue blame finished_stands (finished_passes pages)
+        alone_acts e (actors.Proc proc) (rows.Finished proc order.job.nr outcome) by own uncut event t queue blame finished_stands finished_lasts (finished_passes pages)

@@ -1,4 +1,9 @@
 -- The report of an order that neither made nor showed a document is taken: where no document is left to be discarded, the coordinator that stood for the log stands for it still, and the event is over.
+use Rattle.tab_doors.specs.Working.{IsAhead}
+use Rattle.tab_doors.specs.PassedOn.{noted_by}
+use Rattle.tab_doors.proofs.PassedOn.{plain_nobody, pass_end}
+use Rattle.tab_stands.proofs.Logged.{once_of}
+use Rattle.tab_stands.specs.Offs.{AreShownOnce}
 use Rattle.tab_stands.proofs.Ended.{paid_log}
 use Rattle.log_model.specs.Equal.{holds}
 use Rattle.log_model.specs.History.{has_state}
@@ -15,8 +20,8 @@ use Rattle.row_facts.proofs.Left.Rows.{were_shown}
 use Rattle.row_facts.proofs.Owed.Ends.{loose_owed, owed_paid}
 use Rattle.row_facts.proofs.RestRows.Rows.{delivered_rests}
 use Rattle.seen_facts.proofs.Request.Readers.{SameReads}
-use Rattle.seen_laws.proofs.InEvents.{legal_end}
-use Rattle.seen_laws.specs.InEvent.{InEvent, later_of}
+use Rattle.seen_laws.proofs.InEvents.{now_is}
+use Rattle.seen_laws.specs.InEvent.{InEvent, later_of, log_of}
 use Rattle.std.proofs.Common.{Bool, List, None, Option, Some, [], ap, arith, false, inl, inr, length, map, refl, subst, sym, true, ◌&&◌, ◌==◌, ◌∙◌, ◌≡◌, ◌≤◌, ◌⊎◌}
 use Rattle.std.proofs.lemmas.List.{map-id}
 use Rattle.std.specs.Map.{lookup}
@@ -41,16 +46,15 @@ use Rattle.tab_ids.specs.declared.ReqId.{ReqId}
 use Rattle.tab_ids.specs.declared.StateId.{StateId}
 use Rattle.tab_stands.proofs.Coming.{bare}
 use Rattle.tab_stands.proofs.Dones.{did, did_joined, did_now, did_parked, did_requests, did_tab, did_takes, documents_same, places_same, quiet_asks, quiet_begun}
-use Rattle.tab_stands.proofs.EpochRows.{delivered_under}
-use Rattle.tab_stands.proofs.PassedOn.{of_load, unstood_by, row_duly}
-use Rattle.tab_stands.proofs.Reports.{told_kept, told_legal}
-use Rattle.tab_stands.specs.Delivering.{IsDelivery, IsQuietTask}
+use Rattle.tab_stands.proofs.PassedOn.{of_load, unstood_by}
+use Rattle.tab_stands.proofs.Reports.{told_kept}
+use Rattle.tab_stands.specs.Delivering.{IsSeenDelivery, IsQuietTask}
 use Rattle.tab_stands.specs.PassedOn.{IsStray}
-use Rattle.tab_stands.specs.Standing.{HasActed, HasBegun, HasRoomFor, InCheck, StandsFor, StartsUnasked}
+use Rattle.tab_stands.specs.Standing.{HasActed, HasBegun, HasLogged, HasRoomFor, InCheck, IsOwnRead, StandsFor, seen_start}
 
-module _ (e : InEvent) (proc : ProcId) (job : Job) (outcome : Outcome) (del : IsDelivery e proc (reports.Done job outcome None)) (t : Tables) (queue : Queue) (blame : List (StateId × ReqId)) {check : InCheck} (stands : StandsFor check e.start t queue blame) (aside : StartsUnasked e) (quiet : IsQuietTask job.task) (room : HasRoomFor e.start) (header : t.kept.keep ≡ e.header.keep) (clear : blame ≡ []) where
+module _ (e : InEvent) (proc : ProcId) (job : Job) (outcome : Outcome) (del : IsSeenDelivery e proc (reports.Done job outcome None)) (t : Tables) (queue : Queue) (blame : List (StateId × ReqId)) {check : InCheck} (stands : StandsFor check (seen_start e) t queue blame) (aside : IsOwnRead e) (quiet : IsQuietTask job.task) (logged : HasLogged e t.checks) (room : HasRoomFor (seen_start e)) (header : t.kept.keep ≡ e.header.keep) (clear : blame ≡ []) where
   abbrev s : Seen
-  s = e.start
+  s = seen_start e
 
   abbrev n : Seen
   n = did e proc job outcome del t queue blame stands aside
@@ -65,7 +69,7 @@ module _ (e : InEvent) (proc : ProcId) (job : Job) (outcome : Outcome) (del : Is
   asked = did_requests e proc job outcome del t queue blame stands aside (quiet_asks e proc job outcome del t queue blame stands aside quiet)
 
   begun : HasBegun (record { event = e; loads = check.loads; hand = [] }) t queue blame
-  begun = quiet_begun e proc job outcome del t queue blame stands aside quiet room header
+  begun = quiet_begun e proc job outcome del t queue blame stands aside quiet logged room header
 
   -- what it leaves
   left : IsLeftBut t.running s n
@@ -131,21 +135,20 @@ module _ (e : InEvent) (proc : ProcId) (job : Job) (outcome : Outcome) (del : Is
 
   pub told_stands : StandsFor check n t queue blame
   told_stands =
-      left_stands e t queue blame stands room n left told between
+      left_stands s t queue blame stands room n left told between
       (subst (λ (x : Seen). AreLasting x) (did_now e proc job outcome del t queue blame stands aside) begun.passing.going.lasting)
       (λ F are. orders_after F s e.event actors.Coord (rows.Delivered proc) tt (λ x is. cc) are)
       (theirs_same s n asked (λ doc d found. (d, ap (λ (l : List Document). find (λ (x : Document). x.nr.0 == doc.0) l) docs ∙ found, refl)) stands.lasts.made)
       (were_shown s e.event actors.Coord stands.lasts.were (rows.Delivered proc) tt)
-      (delivered_under s e.event actors.Coord proc (fine t.running s e.event proc stands.between.tab stands.between.flows (reports.Done job outcome None) del.first) stands.lasts.shows)
-      (row_duly s e.event actors.Coord stands.lasts.duly (rows.Delivered proc) tt)
+      (subst (λ (x : Seen). AreShownOnce x.places) (sym (now_is e []) ∙ did_now e proc job outcome del t queue blame stands aside) (once_of logged.lasts.shows))
 
   -- so the event is over
   pub told_acts : HasActed check e [] t queue blame
   told_acts =
       record {
-        stands = subst (λ (x : Seen). StandsFor check x t queue blame) (sym (aside.plain ∙ did_now e proc job outcome del t queue blame stands aside)) told_stands;
+        stands = subst (λ (x : Seen). StandsFor check x t queue blame) (sym (did_now e proc job outcome del t queue blame stands aside)) told_stands;
+        lasts = logged.lasts;
         passes =
-            legal_end e [] (told_legal e proc del.by_coord del.own t queue blame stands aside (reports.Done job outcome None) del.first)
-            (paid_log e [] begun.passing.work (owed_paid e [] (loose_owed e [] begun.loose)))
-            (did_takes e proc job outcome del t queue blame stands aside (later_of e []));
+            pass_end (IsAhead None) e (noted_by t.checks []) [] logged.lawful tt (paid_log e [] begun.passing.work (owed_paid e [] (loose_owed e [] begun.loose))) (did_takes e proc job outcome del t queue blame stands aside (later_of e [])) (λ never. absurd cc)
+            (plain_nobody e.checking (log_of e []) (sym (logged.plain ∙ now_is e [])));
       }

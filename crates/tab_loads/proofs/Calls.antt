@@ -1,9 +1,15 @@
 -- A load is asked for while the coordinator stands for the log: what is so once its row was logged, and that it is refused where a reason stands against it.
+use Rattle.tab_doors.proofs.Uncut.{uncut_pass}
+use Rattle.log_model.specs.declared.row_kind.LogRow.{LogRow}
+use Rattle.seen_laws.specs.Blocks.{EachPass}
+use Rattle.row_facts.proofs.LoadRows.Accepts.{load_passes}
+use Rattle.load_doors.specs.Logged.{IsLogged}
+use Rattle.tab_stands.proofs.Logged.{with_lawful}
+use Rattle.tab_stands.proofs.Accepting.{accepted_row}
+use Rattle.load_doors.proofs.Starts.{next_start}
 use Rattle.row_facts.proofs.Owed.Rows.{refused_lasts}
-use Rattle.tab_stands.proofs.Begun.{start_nobody}
 use Rattle.tab_facts.specs.TabWhole.Tab.{at_hand}
 use Rattle.tab_doors.proofs.PassedOn.{refused_goes}
-use Rattle.tab_stands.proofs.Begun.{checks_first}
 use Rattle.load_doors.specs.Refusing.{IsDeniedLoad}
 use Rattle.load_doors.specs.Tied.{AreTied}
 use Rattle.log_model.specs.Causes.{denial_at_acceptance}
@@ -22,7 +28,7 @@ use Rattle.row_facts.proofs.Owed.Ends.{loose_owed, loose_first, loose_more}
 use Rattle.seen_facts.proofs.Request.LookUps.{none_before as none_in, others_before}
 use Rattle.seen_facts.proofs.Request.Times.{times_none}
 use Rattle.seen_facts.specs.Request.Whereabouts.{times_found}
-use Rattle.seen_laws.specs.InEvent.{InEvent, now_of}
+use Rattle.seen_laws.specs.InEvent.{AreLegal, InEvent, log_of, now_of, start_of}
 use Rattle.std.proofs.Common.{Bool, List, None, Option, Some, [], ap, arith, false, length, refl, subst, sym, true, ℕ, ◌+◌, ◌<◌, ◌==◌, ◌∙◌, ◌∷◌, ◌≡◌}
 use Rattle.std.proofs.lemmas.Bool.Decides.{nat_tests}
 use Rattle.std.specs.Prelude.{is_some}
@@ -47,20 +53,20 @@ use Rattle.tab_passes.proofs.Aims.{aim_is}
 use Rattle.tab_passes.specs.Passing.{aim_in}
 use Rattle.tab_stands.specs.Offs.{AreOffKnown, IsOffSince, is_new_place}
 use Rattle.tab_stands.specs.PassedOn.{IsReady}
-use Rattle.tab_stands.specs.Standing.{HasBegun, HasRoomFor, InCheck, StandsFor}
+use Rattle.tab_stands.specs.Standing.{HasBegun, HasRoomFor, InCheck, LastsInLog, StandsFor, seen_start}
 use Rattle.log_model.specs.declared.job.Why.TheVariants as whys
 use Rattle.log_model.specs.declared.request.Request.TheVariants as requests
 use Rattle.log_model.specs.declared.row_kind.RowKind.TheVariants as rows
 
-module _ (e : InEvent) (t : Tables) (queue : Queue) (blame : List (StateId × ReqId)) {check : InCheck} (stands : StandsFor check e.start t queue blame) (room : HasRoomFor e.start) (header : t.kept.keep ≡ e.header.keep) (req : ReqId) (nav : NavId) (mode : Mode) (address : List ℕ) (asks : IsLoadAsk e req nav mode address) where
+module _ (e : InEvent) (t : Tables) (queue : Queue) (blame : List (StateId × ReqId)) {check : InCheck} (stands : StandsFor check (seen_start e) t queue blame) (room : HasRoomFor (seen_start e)) (header : t.kept.keep ≡ e.header.keep) (req : ReqId) (nav : NavId) (mode : Mode) (address : List ℕ) (asks : IsLoadAsk e req nav mode address) (logged : IsLogged e t.checks) (logs : LastsInLog e.checking (log_of e [])) where
   abbrev s : Seen
-  s = e.start
+  s = seen_start e
 
   abbrev load : Request
   load = requests.Load nav mode address
 
   abbrev went : Seen
-  went = next e.start e.event e.actor (rows.Accepted req None (requests.Load nav mode address))
+  went = next (seen_start e) e.event e.actor (rows.Accepted req None (requests.Load nav mode address))
 
   now : now_of e [] ≡ went
   now = first_is e req nav mode address asks
@@ -74,7 +80,7 @@ module _ (e : InEvent) (t : Tables) (queue : Queue) (blame : List (StateId × Re
   -- ---- no request had its number
 
   none_before : request_in s.requests req ≡ None
-  none_before = none_in s.requests (q e req nav mode address asks) req asks.next
+  none_before = none_in s.requests (q e req nav mode address asks) req (next_start e req.0 asks.next)
 
   nowhere : times_found req s.desks s.joined s.parked (at_hand check.loads []) ≡ 0
   nowhere = stands.between.tab.once req (rw none_before refl) ∙ rw none_before refl
@@ -85,14 +91,14 @@ module _ (e : InEvent) (t : Tables) (queue : Queue) (blame : List (StateId × Re
   -- ---- it is refused
 
   module _ (reason : Denial) (denied : denial_at_acceptance e.start (requests.Load nav mode address) ≡ Some reason) where
-    pub refuse_now : IsDeniedLoad e req reason × AreTied (now_of e []) t
+    pub refuse_now : IsDeniedLoad e req reason × (IsLogged e t.checks × AreTied (now_of e []) t)
     refuse_now = (
-      record { uncut = asks.aside.uncut; unchecked = asks.aside.unchecked; numbered = λ r q at. (stands.between.tab.asked.each r q at).nr; checks = checks_first e asks.aside t.running (load_denied e t queue blame stands room header req nav mode address asks).going.tab.asked; plain = asks.aside.plain; before = start_nobody e asks.aside; nav = nav; mode = mode; address = address; by_user = asks.by_user; own = asks.own; next = asks.next; reason_is = denied; unparked = unparked_before },
-      load_tied e t queue blame stands asks.aside room header req nav mode address asks.by_user asks.own asks.next,
+      record { off = asks.aside.unchecked req; nav = nav; mode = mode; address = address; by_user = asks.by_user; own = asks.own; next = asks.next; reason_is = denied; unparked = unparked_before },
+      (logged, load_tied e t queue blame stands logged.read room header req nav mode address asks.by_user asks.own (next_start e req.0 asks.next)),
     )
 
     its : HasDenied e req check.loads t queue blame
-    its = load_denied e t queue blame stands room header req nav mode address asks
+    its = load_denied e t queue blame stands room header req nav mode address asks logged logs
 
     loose : IsLoose e (rows.Refused req reason ∷ [])
     loose =
@@ -111,11 +117,17 @@ module _ (e : InEvent) (t : Tables) (queue : Queue) (blame : List (StateId × Re
   -- ---- no reason stands against it
 
   module _ (admitted : denial_at_acceptance e.start (requests.Load nav mode address) ≡ None) where
-    off : AreOffKnown t.running e.start
+    off : AreOffKnown t.running (seen_start e)
     off = stands.lasts.off
 
+    legal : AreLegal e []
+    unfolding AreLegal
+    legal later rest =
+        uncut_pass e [] later asks.aside.uncut (subst (λ (row : LogRow). EachPass (start_of e) (row ∷ []) later) (sym (accepted_row e req None load asks.by_user asks.own)) (load_passes e.header e.start e.event req nav mode address later asks.next admitted, tt))
+
     begun : HasBegun (record { event = e; loads = req ∷ check.loads; hand = [] }) t queue blame
-    begun = load_begun e t queue blame stands asks.aside room header req nav mode address asks.by_user asks.own asks.next admitted
+    begun =
+        load_begun e t queue blame stands logged.read room header req nav mode address asks.by_user asks.own (next_start e req.0 asks.next) admitted (with_lawful e asks.aside t.checks logged logs legal)
 
     aim_same : aim_of (now_of e []) ≡ aim_of s
     aim_same =
@@ -140,7 +152,7 @@ module _ (e : InEvent) (t : Tables) (queue : Queue) (blame : List (StateId × Re
         still r x there = by_own (req.0 == r.0) refl
           where
             by_own : (b : Bool) → (req.0 == r.0) ≡ b → request_in went.requests r ≡ Some x
-            by_own false apart = others_before s.requests (q e req nav mode address asks) req asks.next r apart ∙ there
+            by_own false apart = others_before s.requests (q e req nav mode address asks) req (next_start e req.0 asks.next) r apart ∙ there
             by_own true is =
                 let number : req.0 ≡ r.0 = grind (arith, nat_tests, is) in
                 let never : None ≡ Some x = sym none_before ∙ ap (λ (k : ℕ). request_in s.requests (record { 0 = k })) number ∙ there in

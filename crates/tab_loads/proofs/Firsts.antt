@@ -1,6 +1,6 @@
 -- The load as its event begins: it is there by the next number, open and unstarted, at hand and nowhere else.
 use Rattle.seen_laws.proofs.InEvents.{uncut_first}
-use Rattle.tab_doors.proofs.Uncut.{uncut_held, uncut_now}
+use Rattle.tab_doors.proofs.Uncut.{uncut_held}
 use Rattle.seen_facts.proofs.Coord.Unread.{next}
 use Rattle.load_doors.specs.Loading.{IsOpenHere}
 use Rattle.log_model.specs.After.{new_request}
@@ -22,6 +22,9 @@ use Rattle.std.specs.Prelude.{nat_lt}
 use Rattle.tab_doors.specs.Keeping.{IsNoLoad}
 use Rattle.tab_ids.specs.declared.NavId.{NavId}
 use Rattle.tab_ids.specs.declared.ReqId.{ReqId}
+use Rattle.load_doors.proofs.Starts.{next_start}
+use Rattle.load_doors.specs.Logged.{seen_start}
+use Rattle.tab_stands.proofs.Logged.{own_read}
 use Rattle.tab_loads.specs.Loading.{IsLoadAsk}
 use Rattle.tab_facts.proofs.TabWhole.Where.{at_most_once}
 use Rattle.tab_facts.specs.TabWhole.Tab.{IsTab}
@@ -33,18 +36,19 @@ module _ (e : InEvent) (req : ReqId) (nav : NavId) (mode : Mode) (address : List
   abbrev pub q : Asked
   q = new_request req None (requests.Load nav mode address)
 
-  pub first_is : now_of e [] ≡ next e.start e.event e.actor (rows.Accepted req None (requests.Load nav mode address))
-  first_is = sym (uncut_now e asks.aside.uncut asks.aside.plain) ∙ ap (λ (k : RowKind). next e.start e.event e.actor k) asks.own
+  pub first_is : now_of e [] ≡ next (seen_start e) e.event e.actor (rows.Accepted req None (requests.Load nav mode address))
+  first_is = own_read e asks.aside ∙ ap (λ (k : RowKind). next (seen_start e) e.event e.actor k) asks.own
 
   pub found : request_of (now_of e []) req ≡ Some q
-  found = ap (λ (s : Seen). request_of s req) first_is ∙ one_more e.start.requests q req asks.next
+  found = ap (λ (s : Seen). request_of s req) first_is ∙ one_more (seen_start e).requests q req (next_start e req.0 asks.next)
 
   pub accepted_here : is_accepted_here (point_at (here_of e []) []) req ≡ true
   accepted_here = subst (λ (h : Here). is_accepted_here (point_at h []) req ≡ true) (sym (uncut_first e asks.aside.uncut)) (let number = asks.next in let more : nat_lt (length e.start.requests) req.0 ≡ true = grind (arith, nat_tests, number) in more)
 
   -- so in the log as it would be had nobody been asked
   pub accepted_seen : is_accepted_here (point_at (seen_here e []) []) req ≡ true
-  accepted_seen = subst (λ (h : Here). is_accepted_here (point_at h []) req ≡ true) (sym asks.aside.begins) accepted_here
+  accepted_seen =
+      (let number = next_start e req.0 asks.next in let more : nat_lt (length (seen_start e).requests) req.0 ≡ true = grind (arith, nat_tests, number) in more)
 
   pub idle : IsIdle (now_of e []) req
   idle = load_idle (now_of e []) req nav mode address q found refl

@@ -1,4 +1,6 @@
 -- The navigable's ongoing load gives way to the one that is to begin: what its drop asks, and that all goes on before the other one begins.
+use Rattle.load_doors.proofs.Starts.{requests_start}
+use Rattle.load_doors.specs.Logged.{seen_start}
 use Rattle.tab_passes.proofs.PassedOn.{AreLeftDuly, dropped_duly}
 use Rattle.tab_doors.proofs.PassedOn.{dropped_now}
 use Rattle.seen_facts.proofs.Coord.Unread.{next}
@@ -182,7 +184,10 @@ module _ (e : InEvent) (req : ReqId) (nav : NavId) (mode : Mode) (address : List
               absurd cc
 
       long : length s.requests ≡ length e.start.requests + 1
-      long = ap (λ (x : Seen). length x.requests) (first_is e req nav mode address asks) ∙ more e.start.requests (q e req nav mode address asks)
+      long =
+          ap (λ (x : Seen). length x.requests) (first_is e req nav mode address asks)
+          ∙ more (seen_start e).requests (q e req nav mode address asks)
+          ∙ ap (λ (k : ℕ). k + 1) (requests_start e)
         where
           more : (l : List Asked) (x : Asked) → length (l ++ x ∷ []) ≡ length l + 1
           more [] x = omega arith

@@ -1,4 +1,5 @@
 -- The document of the load's navigable is sent to a fragment: the order may be sent, and all goes on then.
+use Rattle.seen_laws.proofs.InEvents.{led_here}
 use Rattle.tab_passes.proofs.PassedOn.{sent_duly}
 use Rattle.tab_doors.proofs.PassedOn.{sent_goes, sent_now}
 use Rattle.seen_laws.specs.Sending.{IsNumbered}
@@ -97,7 +98,7 @@ module _ (e : InEvent) (req : ReqId) (nav : NavId) (mode : Mode) (address : List
 
   pub may_send : MaySend None e [] order
   may_send later both =
-      fragment_may (here_of e []) e.event e.actor order home.document req nav mode address (q e req nav mode address asks) pass.work.own is_numbered due later tt
+      fragment_may (here_of e []) e.event e.actor order home.document req nav mode address (q e req nav mode address asks) (led_here e [] pass.work.own) is_numbered due later tt
 
   pub there : IsThere s doc
   there = record { document = home.document; found = home.found; alive = alive; known = (pass.going.tab.asked.died home.document.proc).0 }

@@ -4,7 +4,9 @@ ghost use Rattle.tab_doors.specs.Working.{KeepsRun};
 ghost use Rattle.tab_loads.specs.Asking.{HasCome, InLoad, IsAsked};
 ghost use Rattle.tab_loads.specs.Loading.{CameTo, InCall, IsLoadAsk, cause_of, pass_of};
 ghost use Rattle.tab_stands.specs.PassedOn.{IsReady};
-ghost use Rattle.tab_stands.specs.Standing.{HasRoomFor, StandsFor};
+ghost use Rattle.load_doors.specs.Logged.{IsLogged};
+ghost use Rattle.seen_laws.specs.InEvent.{log_of};
+ghost use Rattle.tab_stands.specs.Standing.{HasRoomFor, LastsInLog, StandsFor, seen_start};
 
 use crate::beginning::begin;
 use crate::cutting::cut_off;
@@ -80,8 +82,10 @@ pub fn load(
     requires keep { tables.old.kept.keep ≡ k.event.header.keep }
     requires first { out.old ≡ [] }
     requires asks { IsLoadAsk k.event req nav mode address.now }
-    requires room { HasRoomFor k.event.start }
-    requires stands { StandsFor k.check k.event.start tables.old queue.now blame.old.entries }
+    requires room { HasRoomFor (seen_start k.event) }
+    requires stands { StandsFor k.check (seen_start k.event) tables.old queue.now blame.old.entries }
+    requires logged { IsLogged k.event tables.old.checks }
+    requires lasts { LastsInLog k.event.checking (log_of k.event []) }
     ensures came { IfOk result (λ loaded. CameTo k.event req nav mode address.now out.new loaded) }
     ensures ready { IfOk result (λ loaded. IsReady (pass_of k.event k.check.loads) out.new tables.new queue.now blame.new.entries (cause_of req loaded)) }
     ensures kept { OnOk result (KeepsRun tables.old tables.new) }

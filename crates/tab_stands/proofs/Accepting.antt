@@ -1,5 +1,4 @@
 -- A request is accepted with the next number: what goes on from event to event goes on, and nothing else has changed.
-use Rattle.tab_doors.proofs.Uncut.{uncut_now}
 use Rattle.seen_facts.specs.Asked.Asking.{IsThere}
 use Rattle.seen_facts.proofs.Coord.Unread.{accepted_held, next}
 use Rattle.tab_facts.specs.Frame.Lasting.{IsOfItsNav, wish}
@@ -44,7 +43,7 @@ use Rattle.move_queue.specs.Queue.{Queue}
 use Rattle.tab_settles.specs.Settling.{HoldsParked}
 use Rattle.tab_stands.proofs.Coming.{IsComing}
 use Rattle.tab_stands.proofs.More.{coming_more, count_as, new_there, old_stays, one_of, strays_more}
-use Rattle.tab_stands.specs.Standing.{HasRoomFor, InCheck, StandsFor, StartsUnasked}
+use Rattle.tab_stands.specs.Standing.{HasRoomFor, InCheck, IsOwnRead, StandsFor, seen_start}
 use Rattle.log_model.specs.declared.row_kind.Actor.TheVariants as actors
 use Rattle.log_model.specs.declared.row_kind.RowKind.TheVariants as rows
 
@@ -72,26 +71,29 @@ parked_there asked (r ∷ reqs) are req has at = by_test (r.0 == req.0) refl has
 
 -- ---- the row
 
-module _ (e : InEvent) (req : ReqId) (doc : Option DocId) (what : Request) (by_user : e.actor ≡ actors.Ui) (own : e.own ≡ rows.Accepted req doc what) (nr : req.0 ≡ length e.start.requests + 1) (aside : StartsUnasked e) where
+pub accepted_row : (e : InEvent) (req : ReqId) (doc : Option DocId) (what : Request) → e.actor ≡ actors.Ui → e.own ≡ rows.Accepted req doc what → row_of e e.own ≡ record { event = e.event; actor = actors.Ui; row = rows.Accepted req doc what }
+accepted_row e req doc what by_user own =
+    ap (λ (a : Actor). let r : LogRow = record { event = e.event; actor = a; row = e.own } in r) by_user
+    ∙ ap (λ (k : RowKind). let r : LogRow = record { event = e.event; actor = actors.Ui; row = k } in r) own
+
+module _ (e : InEvent) (req : ReqId) (doc : Option DocId) (what : Request) (by_user : e.actor ≡ actors.Ui) (own : e.own ≡ rows.Accepted req doc what) (nr : req.0 ≡ length (seen_start e).requests + 1) (aside : IsOwnRead e) where
   abbrev pub new : Asked
   new = new_request req doc what
 
   abbrev pub went : Seen
-  went = next e.start e.event actors.Ui (rows.Accepted req doc what)
+  went = next (seen_start e) e.event actors.Ui (rows.Accepted req doc what)
 
   abbrev s : Seen
-  s = e.start
+  s = seen_start e
 
   pub now : now_of e [] ≡ went
   now =
-      sym (uncut_now e aside.uncut aside.plain)
-      ∙ (ap (λ (a : Actor). next e.start e.event a e.own) by_user
-      ∙ ap (λ (k : RowKind). next e.start e.event actors.Ui k) own)
+      aside
+      ∙ (ap (λ (a : Actor). next (seen_start e) e.event a e.own) by_user
+      ∙ ap (λ (k : RowKind). next (seen_start e) e.event actors.Ui k) own)
 
   pub its_row : row_of e e.own ≡ record { event = e.event; actor = actors.Ui; row = rows.Accepted req doc what }
-  its_row =
-      ap (λ (a : Actor). let r : LogRow = record { event = e.event; actor = a; row = e.own } in r) by_user
-      ∙ ap (λ (k : RowKind). let r : LogRow = record { event = e.event; actor = actors.Ui; row = k } in r) own
+  its_row = accepted_row e req doc what by_user own
 
   -- nothing is delivered in it
   pub takes_none : (later : List LogRow) → IsTakenIn e later
@@ -110,7 +112,7 @@ module _ (e : InEvent) (req : ReqId) (doc : Option DocId) (what : Request) (by_u
 
   -- ---- what comes
 
-  module _ (t : Tables) (queue : Queue) (blame : List (StateId × ReqId)) {check : InCheck} (stands : StandsFor check e.start t queue blame) where
+  module _ (t : Tables) (queue : Queue) (blame : List (StateId × ReqId)) {check : InCheck} (stands : StandsFor check (seen_start e) t queue blame) where
     pub strays_still : AreLeftStrays went blame
     strays_still = strays_more s went new req nr refl refl refl refl t queue blame stands
 
@@ -220,7 +222,6 @@ module _ (e : InEvent) (req : ReqId) (doc : Option DocId) (what : Request) (by_u
               initial = stands.tied.initial;
               loads = accepted_tied s e.event actors.Ui t.loads stands.tied.loads req doc what nr;
               kept = stands.tied.kept;
-              checks = stands.tied.checks;
             }
 
     pub parked_now : HoldsParked (now_of e []) queue.parked

@@ -31,8 +31,8 @@ use Rattle.tab_ids.specs.declared.ProcId.{ProcId}
 use Rattle.tab_ids.specs.declared.ReqId.{ReqId}
 use Rattle.tab_ids.specs.declared.StateId.{StateId}
 use Rattle.tab_stands.proofs.Unmade.{d, its_found, the_one}
-use Rattle.tab_stands.specs.Delivering.{IsDelivery}
-use Rattle.tab_stands.specs.Standing.{InCheck, StandsFor, StartsUnasked}
+use Rattle.tab_stands.specs.Delivering.{IsSeenDelivery}
+use Rattle.tab_stands.specs.Standing.{InCheck, IsOwnRead, StandsFor, seen_start}
 
 -- the document that is made for a load that waits for it
 record IsDocOf (documents : List Document) (doc : DocId) (state : StateId) : Type 0 where
@@ -58,9 +58,9 @@ doc_of documents doc state waits = by_made (made_for documents state) refl waits
     by_made None at never = absurd cc
     by_made (Some d) at is = by_ready d at d.is_ready is
 
-module _ (e : InEvent) (proc : ProcId) (job : Job) (outcome : Outcome) (del : IsDelivery e proc (reports.Done job outcome None)) (t : Tables) (queue : Queue) (blame : List (StateId × ReqId)) {check : InCheck} (stands : StandsFor check e.start t queue blame) (aside : StartsUnasked e) (nav : NavId) (state : StateId) (address : List ℕ) (initial : Bool) (task : job.task ≡ tasks.Populate nav state address initial) where
+module _ (e : InEvent) (proc : ProcId) (job : Job) (outcome : Outcome) (del : IsSeenDelivery e proc (reports.Done job outcome None)) (t : Tables) (queue : Queue) (blame : List (StateId × ReqId)) {check : InCheck} (stands : StandsFor check (seen_start e) t queue blame) (aside : IsOwnRead e) (nav : NavId) (state : StateId) (address : List ℕ) (initial : Bool) (task : job.task ≡ tasks.Populate nav state address initial) where
   abbrev s : Seen
-  s = e.start
+  s = seen_start e
 
   abbrev own : Document
   own = d e proc job outcome del t queue blame stands aside nav state address initial task

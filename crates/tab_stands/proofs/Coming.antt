@@ -1,4 +1,7 @@
 -- What an event's own row leaves of a tab as one is between two events, so that what documents made may be taken then, and a pass may follow.
+use Rattle.seen_facts.specs.Hang.AsPlaces.{AreDistinct}
+use Rattle.leave_facts.proofs.Bares.{homes_log}
+use Rattle.seen_facts.specs.Home.Homes.{AreHomed}
 use Rattle.tab_facts.proofs.Calm.Calms.{calm_but, calm_need, calm_rooted}
 use Rattle.tab_facts.proofs.Calm.Sames.{SameSights, Sight, calm_same, given_same, here_same, rooted_kept, sight_of, way_at}
 use Rattle.tab_facts.proofs.Calm.Awakes.{lost_none}
@@ -36,9 +39,9 @@ use Rattle.tab_ids.specs.declared.Step.{Step}
 use Rattle.log_model.specs.declared.made.Made.{Made}
 use Rattle.tab_settles.specs.PassedOn.{AreUnheld, IsBlamed, IsLeftStray, IsLoadOf, IsStray, IsTab, IsTaking, LoadsLive, LoadsMadeOwn, MayCause, MayServe, MayStand, ParentsShown, TakersServe, aim_in, show_why}
 use Rattle.tab_settles.specs.Settling.{IsCalmAfter}
-use Rattle.tab_stands.specs.Standing.{Lasts}
+use Rattle.tab_stands.specs.Standing.{Lasts, seen_start}
 use Rattle.row_facts.proofs.WalkRows.Moved.{run_moves}
-use Rattle.row_facts.specs.WalkRows.Since.{AwakeSince, MovesVisited}
+use Rattle.row_facts.specs.WalkRows.Since.{AwakeSince, MovesVisited, WasAwake}
 use Rattle.log_model.specs.declared.job.Why.TheVariants as whys
 
 -- ---- what a row leaves
@@ -87,10 +90,7 @@ pub record IsComing (blame : List (StateId × ReqId)) (s n : Seen) : Type 0 wher
 
 -- ---- what is so then
 
-module _ (e : InEvent) (run : Option ReqId) (keep : ℕ) (goal : Step) (blame : List (StateId × ReqId)) (n : Seen) {loads : List ReqId} {waits : Bool} (between : IsBetweenChecks keep run loads waits e.start) (lasts : Lasts run e.start) (goal_was : HasGoal e.start.requests run goal) (ids : List ReqId) (hand : List Made) (tab : IsTab run ids hand n) (goal_then : HasGoal n.requests run goal) (comes : IsComing blame e.start n) where
-  abbrev s : Seen
-  s = e.start
-
+module _ (s : Seen) (run : Option ReqId) (keep : ℕ) (goal : Step) (blame : List (StateId × ReqId)) (n : Seen) {loads : List ReqId} {waits : Bool} (between : IsBetweenChecks keep run loads waits s) (lasts : Lasts run s) (goal_was : HasGoal s.requests run goal) (ids : List ReqId) (hand : List Made) (tab : IsTab run ids hand n) (goal_then : HasGoal n.requests run goal) (comes : IsComing blame s n) where
   -- the place before
   was : (nav : NavId) (place : Place) → place_of n nav ≡ Some place → WasThere comes.g s.places nav place
   was nav place there =
@@ -259,14 +259,18 @@ module _ (e : InEvent) (run : Option ReqId) (keep : ℕ) (goal : Step) (blame : 
 
   -- ---- all of it, where no ongoing load was held back
 
-  pub taking_then : AreUnheld e n → IsTaking e run blame n
-  taking_then unheld =
+  pub taking_then : (e : InEvent) → s ≡ seen_start e → AreUnheld e n → IsTaking e run blame n
+  taking_then e same unheld =
       record {
         open_ = λ cause may. record {
           may = may;
-          since = record { distinct = places_distinct s between.tab.sound between.tab.hangs; homed = between.tab.homes.homed; ways = ways_then };
-          unwoken = awake_then;
-          still = λ nav place doc at wakes. inl (record { place = comes.g place; placed = still nav place at; wakes = status_same place ∙ wakes });
+          since = record {
+            distinct = subst (λ (x : Seen). AreDistinct x.places) same (places_distinct s between.tab.sound between.tab.hangs);
+            homed = (homes_log e.checking e.start (subst (λ (x : Seen). AreHomed x) same between.tab.homes)).homed;
+            ways = subst (λ (x : Seen). KeepWays x.places n.places) same ways_then;
+          };
+          unwoken = λ nav place doc others at wakes. (let w : WasAwake s nav doc = awake_then nav place doc others at wakes in record { place = w.place; placed = ap (λ (x : Seen). place_of x nav) (sym same) ∙ w.placed; wakes = w.wakes });
+          still = λ nav place doc at wakes. inl (record { place = comes.g place; placed = still nav place (ap (λ (x : Seen). place_of x nav) same ∙ at); wakes = status_same place ∙ wakes });
           moves = moves_then run refl calm_then cause;
           leavers = run_leavers n run tab.asked needs_new cause;
           were = comes.were;

@@ -1,5 +1,4 @@
 -- A request of the user is accepted, and refused in the same event: the coordinator stands for the log still.
-use Rattle.leave_facts.proofs.Carried.{AreLeftDuly, row_duly}
 use Rattle.tab_doors.proofs.PassedOn.{refused_goes, refused_now}
 use Rattle.seen_facts.specs.Asked.Asking.{ArePlain}
 use Rattle.tab_settles.proofs.Puts.{put_makes}
@@ -34,8 +33,8 @@ use Rattle.seen_facts.proofs.Request.Readers.{on_read}
 use Rattle.seen_facts.proofs.Request.Times.{times_none}
 use Rattle.seen_facts.specs.Request.Whereabouts.{times_found}
 use Rattle.row_facts.proofs.RestRows.Rows.{accepted_rests, refused_rests}
-use Rattle.seen_laws.proofs.InEvents.{log_more, goes_more, none_goes}
-use Rattle.seen_laws.specs.InEvent.{InEvent, log_of, now_of, EachGoes}
+use Rattle.seen_laws.proofs.InEvents.{goes_more, none_goes}
+use Rattle.seen_laws.specs.InEvent.{InEvent, now_of, EachGoes}
 use Rattle.std.proofs.Common.{List, None, Option, Some, [], ap, arith, false, filter, inl, inr, length, refl, subst, sym, true, ℕ, ◌++◌, ◌+◌, ◌-◌, ◌==◌, ◌∙◌, ◌∷◌, ◌≡◌, ◌⊎◌}
 use Rattle.std.proofs.lemmas.Bool.Decides.{nat_tests}
 use Rattle.std.proofs.lemmas.List.{map-id}
@@ -60,12 +59,11 @@ use Rattle.tab_settles.specs.Settling.{HoldsParked, MakesServe}
 use Rattle.tab_stands.proofs.Accepting.{goes_on, new, now, tied_now, went, comes_now}
 use Rattle.tab_stands.proofs.Coming.{IsComing}
 use Rattle.tab_settles.proofs.Lates.{unstood_by}
-use Rattle.tab_stands.proofs.EpochRows.{accepted_under, refused_under}
 use Rattle.tab_stands.proofs.More.{coming_more, more, new_there, old_stays, one_of, strays_more}
 use Rattle.tab_stands.proofs.Stays.{stands_still}
 use Rattle.tab_stands.proofs.Waiting.{steps_stay}
-use Rattle.tab_stands.specs.Offs.{AreShownUnder}
-use Rattle.tab_stands.specs.Standing.{HasRoomFor, InCheck, StandsFor, StartsUnasked}
+use Rattle.tab_stands.specs.Offs.{AreShownOnce}
+use Rattle.tab_stands.specs.Standing.{HasRoomFor, InCheck, IsOwnRead, StandsFor, seen_start}
 use Rattle.log_model.specs.declared.outcome.Ending.TheVariants as endings
 use Rattle.log_model.specs.declared.row_kind.Actor.{Actor}
 use Rattle.log_model.specs.declared.row_kind.Actor.TheVariants as actors
@@ -79,9 +77,9 @@ set_last : {A : Type 0} (xs : List A) (x y : A) → slice_set (xs ++ x ∷ []) (
 set_last [] x y = refl
 set_last (z ∷ xs) x y = ap (λ l. z ∷ l) (set_last xs x y)
 
-module _ (e : InEvent) (t : Tables) (queue : Queue) (blame : List (StateId × ReqId)) {check : InCheck} (stands : StandsFor check e.start t queue blame) (aside : StartsUnasked e) (room : HasRoomFor e.start) (req : ReqId) (what : Request) (by_user : e.actor ≡ actors.Ui) (own : e.own ≡ rows.Accepted req None what) (nr : req.0 ≡ length e.start.requests + 1) (reason : Denial) (joins : joined_accepted e.start.joined req what ≡ e.start.joined) where
+module _ (e : InEvent) (t : Tables) (queue : Queue) (blame : List (StateId × ReqId)) {check : InCheck} (stands : StandsFor check (seen_start e) t queue blame) (aside : IsOwnRead e) (room : HasRoomFor (seen_start e)) (req : ReqId) (what : Request) (by_user : e.actor ≡ actors.Ui) (own : e.own ≡ rows.Accepted req None what) (nr : req.0 ≡ length (seen_start e).requests + 1) (reason : Denial) (joins : joined_accepted (seen_start e).joined req what ≡ (seen_start e).joined) where
   abbrev s : Seen
-  s = e.start
+  s = seen_start e
 
   abbrev run : Option ReqId
   run = t.running
@@ -110,12 +108,6 @@ module _ (e : InEvent) (t : Tables) (queue : Queue) (blame : List (StateId × Re
       refused_now e [] req reason
       ∙ (ap (λ (a : Actor). next (now_of e []) e.event a (rows.Refused req reason)) by_user
       ∙ ap (λ (x : Seen). next x e.event actors.Ui (rows.Refused req reason)) (now e req None what by_user own nr aside))
-
-  log_refused : log_of e out ≡ n
-  log_refused =
-      log_more e [] (rows.Refused req reason)
-      ∙ (ap (λ (a : Actor). next (log_of e []) e.event a (rows.Refused req reason)) by_user
-      ∙ ap (λ (x : Seen). next x e.event actors.Ui (rows.Refused req reason)) (aside.plain ∙ now e req None what by_user own nr aside))
 
   -- ---- the requests: one more, which is refused
 
@@ -216,7 +208,6 @@ module _ (e : InEvent) (t : Tables) (queue : Queue) (blame : List (StateId × Re
           initial = tied_w.initial;
           loads = other_ends w n req (refused_ended w e.event actors.Ui req reason) t.loads tied_w.loads (unstarted_no_load w req asked there refl);
           kept = tied_w.kept;
-          checks = tied_w.checks;
         }
       where
         tied_w : AreTied w t
@@ -274,14 +265,7 @@ module _ (e : InEvent) (t : Tables) (queue : Queue) (blame : List (StateId × Re
         subst (λ (x : Seen). OrdersAreSound x) now_refused
         (put_sound e [] out goes (refusal_put e req reason) (sound_first e aside (ap (λ (k : RowKind). leads k) own) (keeps_coming blame s (now_of e []) (comes_now e req None what by_user own nr aside t queue blame stands)) stands.lasts.sound))
 
-    duly : AreLeftDuly n
-    duly =
-        row_duly w e.event actors.Ui (row_duly s e.event actors.Ui stands.lasts.duly (rows.Accepted req None what) nr) (rows.Refused req reason) tt
-
-    shows : AreShownUnder n
-    shows =
-        refused_under w e.event actors.Ui req reason (accepted_under s e.event actors.Ui req None what stands.lasts.shows)
-
-    pub denied_stands : StandsFor check (log_of e out) t queue blame
-    denied_stands =
-        subst (λ (x : Seen). StandsFor check x t queue blame) (sym log_refused) (stands_still e t queue blame stands n comes between going tied makes sound shows duly strays queued held)
+    pub denied_stands : AreShownOnce (now_of e out).places → StandsFor check (now_of e out) t queue blame
+    denied_stands shown =
+        subst (λ (x : Seen). StandsFor check x t queue blame) (sym now_refused)
+        (stands_still (seen_start e) t queue blame stands n comes between going tied makes sound (subst (λ (x : Seen). AreShownOnce x.places) now_refused shown) strays queued held)

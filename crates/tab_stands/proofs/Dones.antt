@@ -1,4 +1,6 @@
 -- A report tells that an order was done of which nothing was made: what the event's own row leaves; and all goes on where the order neither makes nor shows a document.
+use Rattle.load_doors.proofs.Starts.{made_real, requests_start}
+use Rattle.tab_stands.proofs.Applied.{none_applied}
 use Rattle.tab_doors.proofs.Uncut.{uncut_held}
 use Rattle.seen_facts.specs.Coord.Leading.{held_back}
 use Rattle.row_facts.specs.FrameRows.Lawful.{held_at_first}
@@ -32,7 +34,7 @@ use Rattle.tab_settles.proofs.PassedOn.{done_tab, its_report, queue_over}
 use Rattle.tab_settles.specs.PassedOn.{HasQueue, InPass, IsReadyLoadOf, IsTab}
 use Rattle.tab_doors.proofs.EndLaws.{left_holds}
 use Rattle.tab_doors.specs.Look.{look_of as sights_of, sight}
-use Rattle.tab_doors.specs.Working.{IsWorker, KeepsRun}
+use Rattle.tab_doors.specs.Working.{IsWorker, KeepsRun, StartsPlain}
 use Rattle.tab_doors.specs.declared.tables.Tables.{Tables}
 use Rattle.tab_ids.specs.declared.DocId.{DocId}
 use Rattle.tab_ids.specs.declared.NavId.{NavId}
@@ -43,9 +45,9 @@ use Rattle.tab_settles.specs.Settling.{HoldsParked, IsQueueing}
 pub use Rattle.tab_settles.specs.Settling.{MayRelease}
 use Rattle.tab_stands.proofs.Begun.{begun}
 use Rattle.tab_stands.proofs.Coming.{OnlyArrives}
-use Rattle.tab_stands.proofs.Reports.{told, told_comes, told_going, told_held, told_kept, told_legal, told_moved, told_now, told_rests, told_row, told_tied, told_turning}
-use Rattle.tab_stands.specs.Delivering.{IsDelivery, IsQuietTask}
-use Rattle.tab_stands.specs.Standing.{HasBegun, HasRoomFor, InCheck, StandsFor, StartsUnasked}
+use Rattle.tab_stands.proofs.Reports.{told, told_comes, told_going, told_held, told_kept, told_moved, told_now, told_rests, told_row, told_tied, told_turning}
+use Rattle.tab_stands.specs.Delivering.{IsSeenDelivery, IsQuietTask}
+use Rattle.tab_stands.specs.Standing.{HasBegun, HasLogged, HasRoomFor, InCheck, IsOwnRead, StandsFor, seen_start}
 use Rattle.seen_facts.specs.Transit.Orders.{IsOutcomeOf}
 use Rattle.log_model.specs.declared.job.Task.TheVariants as tasks
 use Rattle.log_model.specs.declared.made.Report.TheVariants as reports
@@ -70,12 +72,12 @@ AsksNone _ = Unit {0}
 pub held_first : (e : InEvent) → e.before ≡ [] → (now_of e []).parked ≡ held_at_first e
 held_first e uncut = uncut_held e uncut
 
-module _ (e : InEvent) (proc : ProcId) (job : Job) (outcome : Outcome) (del : IsDelivery e proc (reports.Done job outcome None)) (t : Tables) (queue : Queue) (blame : List (StateId × ReqId)) {check : InCheck} (stands : StandsFor check e.start t queue blame) (aside : StartsUnasked e) where
+module _ (e : InEvent) (proc : ProcId) (job : Job) (outcome : Outcome) (del : IsSeenDelivery e proc (reports.Done job outcome None)) (t : Tables) (queue : Queue) (blame : List (StateId × ReqId)) {check : InCheck} (stands : StandsFor check (seen_start e) t queue blame) (aside : IsOwnRead e) where
   abbrev report : Report
   report = reports.Done job outcome None
 
   abbrev s : Seen
-  s = e.start
+  s = seen_start e
 
   abbrev pub did : Seen
   did = told e proc del.by_coord del.own t queue blame stands aside report del.first
@@ -92,15 +94,15 @@ module _ (e : InEvent) (proc : ProcId) (job : Job) (outcome : Outcome) (del : Is
   -- nothing that changes the history is delivered
   pub did_takes : (later : List LogRow) → IsTakenIn e later
   did_takes later =
-      subst (λ (r : LogRow). is_delivered_duly (point_at (start_of e) later) r ≡ true) (sym (told_row e proc del.by_coord del.own t queue blame stands aside report del.first)) (rw (del.first) refl)
+      subst (λ (r : LogRow). is_delivered_duly (point_at (start_of e) later) r ≡ true) (sym (told_row e proc del.by_coord del.own t queue blame stands aside report del.first)) (rw (del.real_first) (rw (made_real del.real report del.quiet) refl))
 
-  pub did_parked : did.parked ≡ e.start.parked
+  pub did_parked : did.parked ≡ (seen_start e).parked
   did_parked = rw (del.first) refl
 
-  pub did_joined : did.joined ≡ e.start.joined
+  pub did_joined : did.joined ≡ (seen_start e).joined
   did_joined = rw (del.first) refl
 
-  pub did_requests : AsksNone job.task → did.requests ≡ e.start.requests
+  pub did_requests : AsksNone job.task → did.requests ≡ (seen_start e).requests
   did_requests asks = ap (λ (o : Option Report). requests_delivered o s.requests) del.first ∙ by_task job.task outcome asks did_outcome
     where
       by_task : (task : Task) (u : Outcome) → AsksNone task → IsOutcomeOf task u → requests_delivered (Some (reports.Done job u None)) s.requests ≡ s.requests
@@ -116,27 +118,27 @@ module _ (e : InEvent) (proc : ProcId) (job : Job) (outcome : Outcome) (del : Is
   -- ---- what waits, and what is held back
 
   module _ (asks : AsksNone job.task) where
-    abbrev same : did.requests ≡ e.start.requests
+    abbrev same : did.requests ≡ (seen_start e).requests
     same = did_requests asks
 
     pub did_holds_parked : HoldsParked (now_of e []) queue.parked
     did_holds_parked =
         subst (λ (x : Seen). HoldsParked x queue.parked) (sym did_now) (stands.parked ∙ ap (λ (l : List Asked). held_back l s.parked) (sym same) ∙ ap (λ (l : List ReqId). held_back did.requests l) (sym did_parked))
 
-    pub did_release : MayRelease e []
-    did_release =
+    pub did_release : e.before ≡ [] → MayRelease e []
+    did_release uncut =
         record {
           by_coord = del.by_coord;
           takes = ap takes_report del.own;
-          many = ap (λ (x : Seen). length x.requests) did_now ∙ ap (λ (l : List Asked). length l) same;
+          many = ap (λ (x : Seen). length x.requests) did_now ∙ ap (λ (l : List Asked). length l) same ∙ requests_start e;
           old = λ req has. (
-            ap (λ (l : List ReqId). has_req l req) (sym (held_first e aside.uncut)) ∙ has,
+            ap (λ (l : List ReqId). has_req l req) (sym (held_first e uncut)) ∙ has,
             ap (λ (l : List ReqId). has_req l req) (sym did_parked) ∙ (ap (λ (x : Seen). has_req x.parked req) (sym did_now) ∙ has),
           );
         }
 
     -- where documents are as they were, each ready load was so
-    pub did_queue : did.documents ≡ e.start.documents → HasQueue did t.running queue.waiting
+    pub did_queue : did.documents ≡ (seen_start e).documents → HasQueue did t.running queue.waiting
     did_queue documents =
         queue_over s did (record { joined = did_joined; whats = λ req. ap (λ (l : List Asked). option_map (λ (q : Asked). q.what) (request_in l req)) same; ready = λ req nav it. was it }) t.running queue.waiting stands.queue
       where
@@ -150,15 +152,15 @@ module _ (e : InEvent) (proc : ProcId) (job : Job) (outcome : Outcome) (del : Is
             }
 
     module _ (u : Tables) (kept : KeepsRun t u) where
-      pub did_queueing : (left : Queue) → HasQueue did t.running left.waiting → left.parked ≡ queue.parked → IsQueueing (record { event = e; loads = check.loads; hand = [] }) [] u left
-      did_queueing left queued parked =
+      pub did_queueing : e.before ≡ [] → StartsPlain e → (left : Queue) → HasQueue did t.running left.waiting → left.parked ≡ queue.parked → IsQueueing (record { event = e; loads = check.loads; hand = [] }) [] u left
+      did_queueing uncut plain left queued parked =
           record {
-            turning = told_turning e proc del.by_coord del.own t queue blame stands aside report del.first same did_tab.known;
+            turning = told_turning e proc del.by_coord del.own t queue blame stands aside report del.first same did_tab.known uncut plain;
             queued = subst (λ (r : Option ReqId). HasQueue (now_of e []) r left.waiting) (sym kept.running) (subst (λ (x : Seen). HasQueue x t.running left.waiting) (sym did_now) queued);
             parked = parked ∙ did_holds_parked;
             held = λ idle. subst (λ (x : Seen). x.parked ≡ []) (sym did_now) (did_parked ∙ stands.between.held (sym kept.running ∙ idle));
-            over = λ never. absurd cc;
-            releasing = λ some all. did_release;
+            over = λ has. absurd (none_applied e uncut has);
+            releasing = λ some all. did_release uncut;
           }
 
   -- ---- it neither makes nor shows a document
@@ -226,12 +228,11 @@ module _ (e : InEvent) (proc : ProcId) (job : Job) (outcome : Outcome) (del : Is
     abbrev p : InPass
     p = record { event = e; loads = check.loads; hand = [] }
 
-    pub quiet_begun : HasRoomFor e.start → t.kept.keep ≡ e.header.keep → HasBegun (record { event = e; loads = check.loads; hand = [] }) t queue blame
-    quiet_begun room header =
-        begun p t queue blame stands.between stands.lasts stands.tied.goal header aside (ap (λ (k : RowKind). leads k) del.own) (subst (λ (a : Actor). IsWorker a) (sym del.by_coord) tt)
-        (told_legal e proc del.by_coord del.own t queue blame stands aside report del.first)
+    pub quiet_begun : HasLogged e t.checks → HasRoomFor (seen_start e) → t.kept.keep ≡ e.header.keep → HasBegun (record { event = e; loads = check.loads; hand = [] }) t queue blame
+    quiet_begun logged room header =
+        begun p t queue blame stands.between stands.lasts stands.tied.goal header logged (ap (λ (k : RowKind). leads k) del.own) (subst (λ (a : Actor). IsWorker a) (sym del.by_coord) tt)
         tied
         (told_going e proc del.by_coord del.own t queue blame stands aside report del.first (did_requests quiet_asks) room check.loads [] did_tab (told_held e proc del.by_coord del.own t queue blame stands aside report del.first (did_requests quiet_asks) did_parked) (rw places_same stands.lasts.counted.epochs))
         (told_rests e proc del.by_coord del.own t queue blame stands aside report del.first)
         (told_comes e proc del.by_coord del.own t queue blame stands aside report del.first (did_requests quiet_asks) (λ p. p) itself (places_same ∙ sym (map-id s.places)) documents_same)
-        (did_queueing quiet_asks t unchanged queue (did_queue quiet_asks documents_same) refl)
+        (did_queueing quiet_asks t unchanged logged.logged.uncut logged.plain queue (did_queue quiet_asks documents_same) refl)

@@ -1,6 +1,5 @@
 -- An event of the coordinator ends as the tab has come to rest: the coordinator stands for what the log has come to, and each row passes.
 use Rattle.tab_doors.proofs.Works.{plain_now}
-use Rattle.leave_facts.proofs.Carried.{AreLeftDuly}
 use Rattle.tab_doors.proofs.Works.{aimed_log}
 use Rattle.tab_doors.proofs.PassedOn.{paid_read}
 use Rattle.seen_laws.proofs.InEvents.{now_is}
@@ -29,7 +28,7 @@ use Rattle.seen_laws.specs.InEvent.{InEvent, IsPaid, IsTakenIn, later_of, log_of
 use Rattle.std.proofs.Common.{Bool, List, None, Option, Some, [], false, refl, subst, sym, true, ℕ, ◌==◌, ◌∙◌, ◌≡◌}
 use Rattle.std.specs.List.{list_all}
 use Rattle.std.specs.Prelude.{is_some, option_and_then}
-use Rattle.tab_doors.proofs.PassedOn.{none_before, pass_end, plain_nobody}
+use Rattle.tab_doors.proofs.PassedOn.{pass_end, plain_nobody}
 use Rattle.tab_doors.specs.PassedOn.{noted_by}
 use Rattle.tab_doors.specs.Working.{IsAhead, IsAtWork}
 use Rattle.tab_doors.specs.declared.tables.Tables.{Tables}
@@ -43,8 +42,8 @@ use Rattle.tab_settles.proofs.Ended.{IsNoneDue}
 use Rattle.tab_settles.specs.Settling.{HasSettled, MakesServe, NoneRunsWhileHeld, OrdersAreSound}
 use Rattle.tab_stands.proofs.EpochRows.{event_under}
 use Rattle.tab_stands.proofs.LateEvents.{off_of}
-use Rattle.tab_stands.specs.Offs.{AreShownUnder}
-use Rattle.tab_stands.specs.Standing.{HasActed, InCheck, Lasts, StandsFor}
+use Rattle.tab_stands.specs.Offs.{AreShownOnce, AreShownUnder}
+use Rattle.tab_stands.specs.Standing.{HasActed, InCheck, Lasts, LastsInLog}
 
 -- where all were told what is due, each was told something
 each_told : (s : Seen) → ends_told s ≡ true → EachIsTold s
@@ -81,11 +80,11 @@ paid_log e out work paid = rw (own_owes (start_of e) e.event e.actor e.own (log_
         (subst (λ (s : Seen). owes_seen e out s ≡ true) (now_is e out) paid)
 
 -- what a coordinator at work has of its tables
-pub work_tied : (p : InPass) (out : List RowKind) (t : Tables) → ((req : ReqId) → p.event.checking req ≡ false) → IsAtWork p.event out t → AreTied (now_of p.event out) t
-work_tied p out t off work =
-    record { holds = work.holds; runs = work.runs; goal = work.goal; few = work.few; initial = work.initial; loads = work.loads; kept = work.kept; checks = none_before t.checks out (λ req. work.asked.within req (off req)) }
+pub work_tied : (p : InPass) (out : List RowKind) (t : Tables) → IsAtWork p.event out t → AreTied (now_of p.event out) t
+work_tied p out t work =
+    record { holds = work.holds; runs = work.runs; goal = work.goal; few = work.few; initial = work.initial; loads = work.loads; kept = work.kept }
 
-module _ (p : InPass) (out : List RowKind) (t : Tables) (queue : Queue) (blame : List (StateId × ReqId)) (cause : Why) (waits : Bool) (alone : NoneRunsWhileHeld waits t.running) (at : HasSettled p out t queue blame cause) (makes : MakesServe (now_of p.event out)) (sound : OrdersAreSound (now_of p.event out)) (of_coord : (row : RowKind) → Has out row → IsOfCoord row) (shows : AreShownUnder (log_of p.event [])) (off_check : (req : ReqId) → p.event.checking req ≡ false) where
+module _ (p : InPass) (out : List RowKind) (t : Tables) (queue : Queue) (blame : List (StateId × ReqId)) (cause : Why) (waits : Bool) (alone : NoneRunsWhileHeld waits t.running) (at : HasSettled p out t queue blame cause) (makes : MakesServe (now_of p.event out)) (sound : OrdersAreSound (now_of p.event out)) (of_coord : (row : RowKind) → Has out row → IsOfCoord row) (shows : AreShownUnder (log_of p.event [])) where
   abbrev s : Seen
   s = now_of p.event out
 
@@ -128,7 +127,18 @@ module _ (p : InPass) (out : List RowKind) (t : Tables) (queue : Queue) (blame :
   passes taken =
       pass_end (IsAhead None) p.event (noted_by t.checks out) out at.passing.work.lawful tt paid taken at.queueing.over (plain_nobody p.event.checking (log_of p.event out) (sym (plain ∙ now_is p.event out)))
 
-  lasts : AreShownUnder s → Lasts t.running s
+  -- what lasts of the log itself
+  lasts_log : IsTakenIn p.event (later_of p.event out) → LastsInLog p.event.checking (log_of p.event out)
+  lasts_log taken =
+      record { checks = at.passing.work.checks; shows = event_under p.event out (passes taken).1 of_coord shows; duly = at.passing.duly }
+
+  -- navigables are the same in both
+  once : IsTakenIn p.event (later_of p.event out) → AreShownOnce s.places
+  once taken =
+      let shown = (lasts_log taken).shows in
+      subst (λ (x : Seen). AreShownOnce x.places) (sym (now_is p.event out)) (record { unshown = shown.unshown; top_ = shown.top_ })
+
+  lasts : AreShownOnce s.places → Lasts t.running s
   lasts shown =
       record {
         lasting = at.passing.going.lasting;
@@ -143,22 +153,21 @@ module _ (p : InPass) (out : List RowKind) (t : Tables) (queue : Queue) (blame :
         made = at.theirs;
         makes = makes;
         sound = sound;
-        shows = shown;
-        duly = subst AreLeftDuly plain at.passing.duly;
         off = off_of s shown at.passing.going.tab.standing t.running at.calm at.late;
       }
 
   pub acted : (waits ≡ false → IsNoneDue s t.running queue.waiting) → IsTakenIn p.event (later_of p.event out) → HasActed check p.event out t queue blame
   acted due taken =
       record {
-        stands = subst (λ (x : Seen). StandsFor check x t queue blame) (sym plain) (record {
+        stands = record {
           between = between due;
           alone = alone;
-          lasts = lasts (subst (λ (x : Seen). AreShownUnder x) plain (event_under p.event out (passes taken).1 of_coord shows));
-          tied = work_tied p out t off_check at.passing.work;
+          lasts = lasts (once taken);
+          tied = work_tied p out t at.passing.work;
           strays = at.strays;
           queue = at.queueing.queued;
           parked = at.queueing.parked;
-        });
+        };
+        lasts = lasts_log taken;
         passes = passes taken;
       }

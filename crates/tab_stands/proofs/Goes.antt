@@ -1,5 +1,5 @@
 -- A traversal is accepted: it waits behind the others, and all goes on.
-use Rattle.tab_doors.proofs.Uncut.{uncut_pass}
+use Rattle.load_doors.proofs.Starts.{requests_start}
 use Rattle.seen_facts.proofs.Hang.Members.{has_more, into_more}
 use Rattle.seen_facts.specs.Hang.Members.{Has}
 use Rattle.log_model.specs.Causes.{denial_at_acceptance}
@@ -8,15 +8,12 @@ use Rattle.log_model.specs.Places.{aim_of}
 use Rattle.log_model.specs.Seen.{Asked, Seen, request_in, request_of}
 use Rattle.log_model.specs.declared.request.Request.{Request}
 use Rattle.log_model.specs.declared.row_kind.Actor.{Actor}
-use Rattle.log_model.specs.declared.row_kind.LogRow.{LogRow}
 use Rattle.log_model.specs.declared.row_kind.RowKind.{RowKind}
 use Rattle.move_queue.specs.Queue.{Queue}
 use Rattle.move_queue.specs.declared.queue_step.QueueStep.{QueueStep}
 use Rattle.move_queue.specs.declared.queue_step.QueueStep.TheVariants.{Traverse}
 use Rattle.seen_facts.specs.Request.Knowns.{AreKnown}
-use Rattle.seen_laws.proofs.Processes.{go_passes}
-use Rattle.seen_laws.specs.Blocks.{EachPass}
-use Rattle.seen_laws.specs.InEvent.{AreLegal, InEvent, now_of, start_of}
+use Rattle.seen_laws.specs.InEvent.{InEvent, now_of}
 use Rattle.seen_laws.specs.Sending.{leads}
 use Rattle.std.proofs.Common.{List, None, Option, Some, [], ap, arith, false, filter, inl, inr, length, refl, subst, sym, ℤ, ◌++◌, ◌+◌, ◌∙◌, ◌∷◌, ◌≡◌, ◌≤◌, ◌⊎◌}
 use Rattle.std.proofs.lemmas.Bool.Decides.{nat_tests}
@@ -28,11 +25,11 @@ use Rattle.tab_doors.specs.declared.tables.Tables.{Tables}
 use Rattle.tab_ids.specs.declared.ReqId.{ReqId}
 use Rattle.tab_ids.specs.declared.StateId.{StateId}
 use Rattle.tab_settles.specs.Settling.{IsTurning}
-use Rattle.tab_stands.proofs.Accepting.{comes_now, goes_on, its_row, new, now, number_low, old_or_new, rests_now, stays, there_now, tied_now}
+use Rattle.tab_stands.proofs.Accepting.{comes_now, goes_on, new, now, number_low, old_or_new, rests_now, stays, there_now, tied_now}
 use Rattle.tab_stands.proofs.Begun.{begun}
 use Rattle.tab_stands.proofs.Coming.{aim_same}
 use Rattle.tab_stands.proofs.Waiting.{await_still, queueing_now, steps_stay}
-use Rattle.tab_stands.specs.Standing.{HasBegun, HasRoomFor, InCheck, StandsFor, StartsUnasked}
+use Rattle.tab_stands.specs.Standing.{HasBegun, HasLogged, HasRoomFor, InCheck, IsOwnRead, StandsFor, seen_start}
 use Rattle.tab_settles.proofs.PassedOn.{turning_first, went, went_tab}
 use Rattle.log_model.specs.declared.request.Request.TheVariants as requests
 use Rattle.log_model.specs.declared.row_kind.Actor.TheVariants as actors
@@ -60,33 +57,33 @@ tab_more waiting last own each step has = by_place (has_more waiting last step h
     by_place (inl there) = each step there
     by_place (inr same) = subst (λ (x : QueueStep). IsOfTab x) same own
 
-module _ (e : InEvent) (t : Tables) (queue : Queue) (blame : List (StateId × ReqId)) {check : InCheck} (stands : StandsFor check e.start t queue blame) (aside : StartsUnasked e) (room : HasRoomFor e.start) (header : t.kept.keep ≡ e.header.keep) (req : ReqId) (delta : ℤ) (by_user : e.actor ≡ actors.Ui) (own : e.own ≡ rows.Accepted req None (requests.Go delta)) (nr : req.0 ≡ length e.start.requests + 1) where
+module _ (e : InEvent) (t : Tables) (queue : Queue) (blame : List (StateId × ReqId)) {check : InCheck} (stands : StandsFor check (seen_start e) t queue blame) (logged : HasLogged e t.checks) (room : HasRoomFor (seen_start e)) (header : t.kept.keep ≡ e.header.keep) (req : ReqId) (delta : ℤ) (by_user : e.actor ≡ actors.Ui) (own : e.own ≡ rows.Accepted req None (requests.Go delta)) (nr : req.0 ≡ length (seen_start e).requests + 1) where
   abbrev go : Request
   go = requests.Go delta
 
   abbrev n : Seen
-  n = went t.running e.start e.event actors.Ui stands.between.tab stands.between.flows req nr delta
+  n = went t.running (seen_start e) e.event actors.Ui stands.between.tab stands.between.flows req nr delta
 
   tab : IsTab t.running check.loads [] n
-  tab = went_tab t.running e.start e.event actors.Ui stands.between.tab stands.between.flows req nr delta
+  tab = went_tab t.running (seen_start e) e.event actors.Ui stands.between.tab stands.between.flows req nr delta
 
-  legal : AreLegal e []
-  unfolding AreLegal
-  legal later rest =
-      uncut_pass e [] later aside.uncut (subst (λ (row : LogRow). EachPass (start_of e) (row ∷ []) later) (sym (its_row e req None go by_user own nr aside)) (go_passes e.header e.start e.event req delta later nr, tt))
+  aside : IsOwnRead e
+  aside = logged.logged.read
 
   -- what joined isn't refused as it is accepted
   early : (r : ReqId) (q : Asked) → request_in n.requests r ≡ Some q → denial_at_acceptance e.start q.what ≡ None ⊎ (nat_lt (length e.start.requests) r.0 ≡ false)
   early r q at = by_old (old_or_new e req None go by_user own nr aside r q at)
     where
-      by_old : (request_in e.start.requests r ≡ Some q) ⊎ ((r ≡ req) × (q ≡ new e req None go by_user own nr aside)) → denial_at_acceptance e.start q.what ≡ None ⊎ (nat_lt (length e.start.requests) r.0 ≡ false)
+      by_old : (request_in (seen_start e).requests r ≡ Some q) ⊎ ((r ≡ req) × (q ≡ new e req None go by_user own nr aside)) → denial_at_acceptance e.start q.what ≡ None ⊎ (nat_lt (length e.start.requests) r.0 ≡ false)
       by_old (inl old) =
-          let low : r.0 ≤ length e.start.requests = number_low e.start.requests r q old in inr (grind (arith, nat_tests, low))
+          let low : r.0 ≤ length (seen_start e).requests = number_low (seen_start e).requests r q old in
+          let many : length (seen_start e).requests ≡ length e.start.requests = requests_start e in
+          inr (grind (arith, nat_tests, low, many))
       by_old (inr it) = inl (ap (λ (x : Asked). denial_at_acceptance e.start x.what) it.1)
 
   turning : IsTurning e []
   turning =
-      turning_first e aside.uncut (subst (λ (x : Seen). AreKnown x) (sym (now e req None go by_user own nr aside)) tab.known) (λ r q has at. early r q (ap (λ (x : Seen). request_of x r) (sym (now e req None go by_user own nr aside)) ∙ at)) aside.plain
+      turning_first e logged.logged.uncut (subst (λ (x : Seen). AreKnown x) (sym (now e req None go by_user own nr aside)) tab.known) (λ r q has at. early r q (ap (λ (x : Seen). request_of x r) (sym (now e req None go by_user own nr aside)) ∙ at)) logged.plain
 
   -- ---- it joins
 
@@ -94,12 +91,12 @@ module _ (e : InEvent) (t : Tables) (queue : Queue) (blame : List (StateId × Re
   delta_now =
       ap (λ (o : Option Asked). option_and_then (λ (q : Asked). delta_of q.what) o) (there_now e req None go by_user own nr aside)
 
-  behind : (joined : List ReqId) (steps : List QueueStep) → AreStepsOf e.start.requests joined steps → AreStepsOf n.requests (joined ++ req ∷ []) (steps ++ Traverse req delta ∷ [])
+  behind : (joined : List ReqId) (steps : List QueueStep) → AreStepsOf (seen_start e).requests joined steps → AreStepsOf n.requests (joined ++ req ∷ []) (steps ++ Traverse req delta ∷ [])
   behind joined steps are =
-      steps_more n.requests joined steps req delta delta_now (steps_stay e.start.requests n.requests (stays e req None go by_user own nr aside) joined steps are)
+      steps_more n.requests joined steps req delta delta_now (steps_stay (seen_start e).requests n.requests (stays e req None go by_user own nr aside) joined steps are)
 
-  joined : (run : Option ReqId) (steps : List QueueStep) → HaveJoined e.start run steps → HaveJoined n run (steps ++ Traverse req delta ∷ [])
-  joined None steps have = behind e.start.joined steps have
+  joined : (run : Option ReqId) (steps : List QueueStep) → HaveJoined (seen_start e) run steps → HaveJoined n run (steps ++ Traverse req delta ∷ [])
+  joined None steps have = behind (seen_start e).joined steps have
   joined (Some run) steps have =
       record { rest = have.rest ++ req ∷ []; joined = ap (λ (l : List ReqId). l ++ req ∷ []) have.joined; steps_ = behind have.rest steps have.steps_ }
 
@@ -117,14 +114,14 @@ module _ (e : InEvent) (t : Tables) (queue : Queue) (blame : List (StateId × Re
   abbrev p : InPass
   p = record { event = e; loads = check.loads; hand = [] }
 
-  aim : aim_of (now_of e []) ≡ aim_of e.start
+  aim : aim_of (now_of e []) ≡ aim_of (seen_start e)
   aim =
-      aim_same e t.running t.kept.keep t.goal blame (now_of e []) stands.between stands.lasts stands.tied.goal check.loads [] (subst (λ (x : Seen). IsTab t.running check.loads [] x) (sym (now e req None go by_user own nr aside)) tab) (tied_now e req None go by_user own nr aside t queue blame stands check.loads tab).goal (comes_now e req None go by_user own nr aside t queue blame stands)
+      aim_same (seen_start e) t.running t.kept.keep t.goal blame (now_of e []) stands.between stands.lasts stands.tied.goal check.loads [] (subst (λ (x : Seen). IsTab t.running check.loads [] x) (sym (now e req None go by_user own nr aside)) tab) (tied_now e req None go by_user own nr aside t queue blame stands check.loads tab).goal (comes_now e req None go by_user own nr aside t queue blame stands)
 
   pub go_begun : (left : Queue) → left ≡ record queue { waiting = queue.waiting ++ Traverse req delta ∷ [] } → HasBegun (record { event = e; loads = check.loads; hand = [] }) t left blame
   go_begun left pushed =
-      begun p t left blame stands.between stands.lasts stands.tied.goal header aside (ap (λ (k : RowKind). leads k) own) (subst (λ (a : Actor). IsWorker a) (sym by_user) tt) legal (tied_now e req None go by_user own nr aside t queue blame stands check.loads tab)
+      begun p t left blame stands.between stands.lasts stands.tied.goal header logged (ap (λ (k : RowKind). leads k) own) (subst (λ (a : Actor). IsWorker a) (sym by_user) tt) (tied_now e req None go by_user own nr aside t queue blame stands check.loads tab)
       (goes_on e req None go by_user own nr aside t queue blame stands room (λ x never. absurd cc) check.loads tab)
       (rests_now e req None go by_user own nr aside t queue blame stands)
       (comes_now e req None go by_user own nr aside t queue blame stands)
-      (queueing_now e req None go by_user own nr aside t queue blame stands check.loads left aim turning (queued left.waiting (ap (λ (q : Queue). q.waiting) pushed)) (ap (λ (q : Queue). q.parked) pushed))
+      (queueing_now e req None go by_user own nr aside t queue blame stands logged.logged.uncut check.loads left aim turning (queued left.waiting (ap (λ (q : Queue). q.waiting) pushed)) (ap (λ (q : Queue). q.parked) pushed))

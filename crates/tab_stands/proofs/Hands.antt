@@ -1,4 +1,7 @@
 -- A report tells what a document made, and that is at hand, held back for the traversal that runs, or a traversal that joins the queue: all goes on.
+use Rattle.load_doors.proofs.Starts.{requests_start}
+use Rattle.tab_doors.specs.Working.{StartsPlain}
+use Rattle.tab_stands.proofs.Applied.{none_applied}
 use Rattle.seen_facts.specs.Asked.Asking.{IsTabRequest}
 use Rattle.seen_facts.specs.Coord.Leading.{held_back}
 use Rattle.seen_facts.proofs.Fragment.Delivered.{held_then, unheld_then}
@@ -39,8 +42,8 @@ use Rattle.tab_stands.proofs.Goes.{await_more, steps_more, tab_more, traverses_m
 use Rattle.tab_stands.proofs.Mades.{IsMadeFor, heard, heard_begun, heard_comes, heard_documents, heard_first, heard_now, heard_parked, heard_places, heard_requests, heard_tied, its_asked, its_nav, its_plain}
 use Rattle.tab_stands.proofs.Reports.{told_held, told_turning}
 use Rattle.tab_stands.proofs.Waiting.{off_where_runs}
-use Rattle.tab_stands.specs.Delivering.{IsDelivery, IsToldOf}
-use Rattle.tab_stands.specs.Standing.{HasBegun, HasRoomFor, InCheck, StandsFor, StartsUnasked}
+use Rattle.tab_stands.specs.Delivering.{IsSeenDelivery, IsToldOf}
+use Rattle.tab_stands.specs.Standing.{HasBegun, HasLogged, HasRoomFor, InCheck, IsOwnRead, StandsFor, seen_start}
 use Rattle.log_model.specs.declared.action.Action.TheVariants as acts
 use Rattle.log_model.specs.declared.made.What.TheVariants as whats
 use Rattle.log_model.specs.declared.request.Request.TheVariants as requests
@@ -69,14 +72,14 @@ going_delta nav (acts.AddFrame child) e = absurd cc
 going_delta nav (acts.RemoveFrame child) e = absurd cc
 going_delta nav acts.Edit e = absurd cc
 
-module _ (e : InEvent) (proc : ProcId) (report : Report) (made : Made) (del : IsDelivery e proc report) (tells : IsToldOf report made) (t : Tables) (queue : Queue) (blame : List (StateId × ReqId)) {check : InCheck} (stands : StandsFor check e.start t queue blame) (aside : StartsUnasked e) where
+module _ (e : InEvent) (proc : ProcId) (report : Report) (made : Made) (del : IsSeenDelivery e proc report) (tells : IsToldOf report made) (t : Tables) (queue : Queue) (blame : List (StateId × ReqId)) {check : InCheck} (stands : StandsFor check (seen_start e) t queue blame) (aside : IsOwnRead e) where
   abbrev s : Seen
-  s = e.start
+  s = seen_start e
 
   abbrev n : Seen
   n = heard e proc report made del tells t queue blame stands aside
 
-  abbrev same : n.requests ≡ e.start.requests
+  abbrev same : n.requests ≡ (seen_start e).requests
   same = heard_requests e proc report made del tells t queue blame stands aside
 
   documents_same : n.documents ≡ s.documents
@@ -111,48 +114,48 @@ module _ (e : InEvent) (proc : ProcId) (report : Report) (made : Made) (del : Is
 
   -- ---- nothing more is held back
 
-  module _ (free : is_held_back e.start made ≡ false) where
+  module _ (free : is_held_back (seen_start e) made ≡ false) where
     parked_same : n.parked ≡ s.parked
     parked_same = heard_parked e proc report made del tells t queue blame stands aside false free
 
     held_free : AreHeldUp t.running n
     held_free = told_held e proc del.by_coord del.own t queue blame stands aside report del.first same parked_same
 
-    pub hand_release : MayRelease e []
-    hand_release =
+    pub hand_release : e.before ≡ [] → MayRelease e []
+    hand_release uncut =
         record {
           by_coord = del.by_coord;
           takes = ap takes_report del.own;
-          many = ap (λ (x : Seen). length x.requests) now ∙ ap (λ (l : List Asked). length l) same;
+          many = ap (λ (x : Seen). length x.requests) now ∙ ap (λ (l : List Asked). length l) same ∙ requests_start e;
           old = λ req has. (
-            ap (λ (l : List ReqId). has_req l req) (sym (held_first e aside.uncut)) ∙ has,
+            ap (λ (l : List ReqId). has_req l req) (sym (held_first e uncut)) ∙ has,
             ap (λ (l : List ReqId). has_req l req) (sym parked_same) ∙ (ap (λ (x : Seen). has_req x.parked req) (sym now) ∙ has),
           );
         }
 
-    queueing_free : (ids : List Made) → IsTab t.running check.loads ids n → (left : Queue) → HasQueue n t.running left.waiting → left.parked ≡ queue.parked → IsQueueing (record { event = e; loads = check.loads; hand = ids }) [] t left
-    queueing_free ids tab left queued parked =
+    queueing_free : e.before ≡ [] → StartsPlain e → (ids : List Made) → IsTab t.running check.loads ids n → (left : Queue) → HasQueue n t.running left.waiting → left.parked ≡ queue.parked → IsQueueing (record { event = e; loads = check.loads; hand = ids }) [] t left
+    queueing_free uncut plain ids tab left queued parked =
         record {
-          turning = told_turning e proc del.by_coord del.own t queue blame stands aside report del.first same tab.known;
+          turning = told_turning e proc del.by_coord del.own t queue blame stands aside report del.first same tab.known uncut plain;
           queued = subst (λ (x : Seen). HasQueue x t.running left.waiting) (sym now) queued;
           parked = parked ∙ stands.parked ∙ sym (unheld_then s e.event proc made (heard_first e proc report made del tells t queue blame stands aside) free) ∙ ap (λ (x : Seen). held_back x.requests x.parked) (sym now);
           held = λ idle. ap (λ (x : Seen). x.parked) now ∙ parked_same ∙ stands.between.held idle;
-          over = λ never. absurd cc;
-          releasing = λ some all. hand_release;
+          over = λ has. absurd (none_applied e uncut has);
+          releasing = λ some all. hand_release uncut;
         }
 
   -- ---- it is at hand
 
-  pub hand_begun : IsNoGo made.what → is_held_back e.start made ≡ false → HasRoomFor e.start → t.kept.keep ≡ e.header.keep → HasBegun (record { event = e; loads = check.loads; hand = made ∷ [] }) t queue blame
-  hand_begun no_go free room header =
-      heard_begun e proc report made del tells t queue blame stands aside room header (made ∷ []) tab (held_free free) queue (queueing_free free (made ∷ []) tab queue (queue_still (unqueued s [] e.event actors.Coord proc report made del.first tells no_go)) refl)
+  pub hand_begun : IsNoGo made.what → is_held_back (seen_start e) made ≡ false → HasLogged e t.checks → HasRoomFor (seen_start e) → t.kept.keep ≡ e.header.keep → HasBegun (record { event = e; loads = check.loads; hand = made ∷ [] }) t queue blame
+  hand_begun no_go free logged room header =
+      heard_begun e proc report made del tells t queue blame stands aside logged room header (made ∷ []) tab (held_free free) queue (queueing_free free logged.logged.uncut logged.plain (made ∷ []) tab queue (queue_still (unqueued s [] e.event actors.Coord proc report made del.first tells no_go)) refl)
     where
       tab : IsTab t.running check.loads (made ∷ []) n
       tab = hand_tab t.running s e.event proc stands.between.tab stands.between.flows report made del.first tells no_go free
 
   -- ---- it is held back
 
-  module _ (no_go : IsNoGo made.what) (held : is_held_back e.start made ≡ true) where
+  module _ (no_go : IsNoGo made.what) (held : is_held_back (seen_start e) made ≡ true) where
     tab_held : IsTab t.running check.loads [] n
     tab_held = held_tab t.running s e.event proc stands.between.tab stands.between.flows report made del.first tells no_go held
 
@@ -196,7 +199,7 @@ module _ (e : InEvent) (proc : ProcId) (report : Report) (made : Made) (del : Is
 
     aim : aim_of (now_of e []) ≡ aim_of s
     aim =
-        aim_same e t.running t.kept.keep t.goal blame (now_of e []) stands.between stands.lasts stands.tied.goal check.loads [] (subst (λ (x : Seen). IsTab t.running check.loads [] x) (sym now) tab_held) (heard_tied e proc report made del tells t queue blame stands aside).goal (heard_comes e proc report made del tells t queue blame stands aside)
+        aim_same (seen_start e) t.running t.kept.keep t.goal blame (now_of e []) stands.between stands.lasts stands.tied.goal check.loads [] (subst (λ (x : Seen). IsTab t.running check.loads [] x) (sym now) tab_held) (heard_tied e proc report made del tells t queue blame stands aside).goal (heard_comes e proc report made del tells t queue blame stands aside)
 
     -- not all stand where the traversal leads to
     stands_not : all_stand (now_of e []) (aim_of (now_of e [])) ≡ true → ⊥
@@ -215,21 +218,21 @@ module _ (e : InEvent) (proc : ProcId) (report : Report) (made : Made) (del : Is
             let never : true ≡ false = sym all ∙ stood ∙ off in
             cc
 
-    pub parked_begun : HasRoomFor e.start → t.kept.keep ≡ e.header.keep → (left : Queue) → left ≡ record queue { parked = queue.parked ++ made ∷ [] } → HasBegun (record { event = e; loads = check.loads; hand = [] }) t left blame
-    parked_begun room header left pushed =
-        heard_begun e proc report made del tells t queue blame stands aside room header [] tab_held held_more left (record {
-          turning = told_turning e proc del.by_coord del.own t queue blame stands aside report del.first same tab_held.known;
+    pub parked_begun : HasLogged e t.checks → HasRoomFor (seen_start e) → t.kept.keep ≡ e.header.keep → (left : Queue) → left ≡ record queue { parked = queue.parked ++ made ∷ [] } → HasBegun (record { event = e; loads = check.loads; hand = [] }) t left blame
+    parked_begun logged room header left pushed =
+        heard_begun e proc report made del tells t queue blame stands aside logged room header [] tab_held held_more left (record {
+          turning = told_turning e proc del.by_coord del.own t queue blame stands aside report del.first same tab_held.known logged.logged.uncut logged.plain;
           queued = subst (λ (x : Seen). HasQueue x t.running left.waiting) (sym now) (subst (λ (l : List QueueStep). HasQueue n t.running l) (sym (ap (λ (q : Queue). q.waiting) pushed)) (queue_still (unqueued s [] e.event actors.Coord proc report made del.first tells no_go)));
           parked = ap (λ (q : Queue). q.parked) pushed ∙ ap (λ (l : List Made). l ++ made ∷ []) stands.parked ∙ sym (held_then s e.event proc made (heard_first e proc report made del tells t queue blame stands aside) asked.q asked.there asked.makes held) ∙ ap (λ (x : Seen). held_back x.requests x.parked) (sym now);
           held = λ idle. absurd (busy idle);
-          over = λ never. absurd cc;
+          over = λ has. absurd (none_applied e logged.logged.uncut has);
           releasing = λ some all. absurd (stands_not all);
         })
 
   -- ---- it is a traversal, and joins the queue
 
   module _ (delta : ℤ) (going : made.what ≡ whats.Go delta) where
-    free_go : is_held_back e.start made ≡ false
+    free_go : is_held_back (seen_start e) made ≡ false
     free_go = rw going refl
 
     tab_joined : IsTab t.running check.loads [] n
@@ -286,6 +289,6 @@ module _ (e : InEvent) (proc : ProcId) (report : Report) (made : Made) (del : Is
           steps = tab_more queue.waiting (Traverse made.req delta) tt stands.queue.steps;
         }
 
-    pub joined_begun : HasRoomFor e.start → t.kept.keep ≡ e.header.keep → (left : Queue) → left ≡ record queue { waiting = queue.waiting ++ Traverse made.req delta ∷ [] } → HasBegun (record { event = e; loads = check.loads; hand = [] }) t left blame
-    joined_begun room header left pushed =
-        heard_begun e proc report made del tells t queue blame stands aside room header [] tab_joined (held_free free_go) left (queueing_free free_go [] tab_joined left (subst (λ (l : List QueueStep). HasQueue n t.running l) (sym (ap (λ (q : Queue). q.waiting) pushed)) queue_more) (ap (λ (q : Queue). q.parked) pushed))
+    pub joined_begun : HasLogged e t.checks → HasRoomFor (seen_start e) → t.kept.keep ≡ e.header.keep → (left : Queue) → left ≡ record queue { waiting = queue.waiting ++ Traverse made.req delta ∷ [] } → HasBegun (record { event = e; loads = check.loads; hand = [] }) t left blame
+    joined_begun logged room header left pushed =
+        heard_begun e proc report made del tells t queue blame stands aside logged room header [] tab_joined (held_free free_go) left (queueing_free free_go logged.logged.uncut logged.plain [] tab_joined left (subst (λ (l : List QueueStep). HasQueue n t.running l) (sym (ap (λ (q : Queue). q.waiting) pushed)) queue_more) (ap (λ (q : Queue). q.parked) pushed))

@@ -19,7 +19,7 @@ use Rattle.tab_settles.specs.Offs.{IsLate, LateKnown}
 use Rattle.tab_settles.specs.Settling.{IsCalmAfter}
 use Rattle.tab_stands.proofs.Coming.{IsAlike, IsComing}
 use Rattle.tab_stands.proofs.Epochs.{old_by}
-use Rattle.tab_stands.specs.Offs.{AreOffKnown, AreShownUnder, IsOffSince, is_new_place}
+use Rattle.tab_stands.specs.Offs.{AreOffKnown, AreShownOnce, IsOffSince, is_new_place}
 use Rattle.seen_facts.proofs.Walk.Placed.{found_nav}
 
 -- ---- who is late doesn't stand
@@ -115,7 +115,7 @@ awake_on place wakes = by_status place.status refl wakes
     by_status lost is never = absurd cc
     by_status asleep is never = absurd cc
 
-module _ (s : Seen) (shows : AreShownUnder s) (standing : AreStanding s) where
+module _ (s : Seen) (shows : AreShownOnce s.places) (standing : AreStanding s) where
   -- where no traversal runs
   since : IsCalm s → LateKnown None s → (nav : NavId) (place : Place) → place_of s nav ≡ Some place → is_shown s.history.rows s.history.current nav ≡ true → stands s s.history.current nav ≡ false → is_new_place place ≡ false → IsOffSince s nav place
   since calm known nav place at shown away old = by_awake (calm.wakes nav place at shown_own epoch)

@@ -32,3 +32,5 @@ pub mod Parks
 pub mod Taken
 pub mod PassedOn
 pub mod DulyEvents
+pub mod Logged
+pub mod Applied

@@ -1,4 +1,5 @@
 -- A report tells what a document made: what is known of it and of its request, and what the event's own row leaves; and all goes on with it at hand.
+use Rattle.load_doors.proofs.Starts.{made_real, up_start}
 use Rattle.seen_facts.specs.Asked.Asking.{IsAskedPlainly, IsTabRequest}
 use Rattle.seen_facts.specs.Desk.Own.{IsFragmentTask, IsMadeIn, IsReportIn}
 use Rattle.seen_facts.specs.Fragment.Fragments.{IsFirstMadeOf, IsQuiet}
@@ -46,9 +47,9 @@ use Rattle.tab_settles.specs.Settling.{IsQueueing}
 use Rattle.tab_stands.proofs.Begun.{begun}
 use Rattle.tab_stands.proofs.Coming.{IsComing}
 use Rattle.tab_stands.proofs.Dones.{itself, unchanged}
-use Rattle.tab_stands.proofs.Reports.{told, told_comes, told_going, told_kept, told_legal, told_moved, told_now, told_rests, told_row, told_tied}
-use Rattle.tab_stands.specs.Delivering.{IsDelivery, IsToldOf}
-use Rattle.tab_stands.specs.Standing.{HasBegun, HasRoomFor, InCheck, StandsFor, StartsUnasked}
+use Rattle.tab_stands.proofs.Reports.{told, told_comes, told_going, told_kept, told_moved, told_now, told_rests, told_row, told_tied}
+use Rattle.tab_stands.specs.Delivering.{IsSeenDelivery, IsToldOf}
+use Rattle.tab_stands.specs.Standing.{HasBegun, HasLogged, HasRoomFor, InCheck, IsOwnRead, StandsFor, seen_start}
 use Rattle.tab_settles.proofs.PassedOn.{its_report}
 use Rattle.seen_facts.specs.Transit.Orders.{IsOutcomeOf}
 use Rattle.log_model.specs.declared.job.Task.TheVariants as tasks
@@ -67,9 +68,9 @@ pub record IsMadeFor (s : Seen) (made : Made) : Type 0 where
   pub makes : q.made ≡ Some made
   pub open_ : q.ending ≡ None
 
-module _ (e : InEvent) (proc : ProcId) (report : Report) (made : Made) (del : IsDelivery e proc report) (tells : IsToldOf report made) (t : Tables) (queue : Queue) (blame : List (StateId × ReqId)) {check : InCheck} (stands : StandsFor check e.start t queue blame) (aside : StartsUnasked e) where
+module _ (e : InEvent) (proc : ProcId) (report : Report) (made : Made) (del : IsSeenDelivery e proc report) (tells : IsToldOf report made) (t : Tables) (queue : Queue) (blame : List (StateId × ReqId)) {check : InCheck} (stands : StandsFor check (seen_start e) t queue blame) (aside : IsOwnRead e) where
   abbrev s : Seen
-  s = e.start
+  s = seen_start e
 
   abbrev pub heard : Seen
   heard = told e proc del.by_coord del.own t queue blame stands aside report del.first
@@ -83,10 +84,10 @@ module _ (e : InEvent) (proc : ProcId) (report : Report) (made : Made) (del : Is
   -- the report is of a poke, or of a fragment order, and a document of the process made it
   pub record IsOfOwn : Type 0 where
     pub quiet : IsQuiet report
-    pub own : IsMadeIn e.start.documents proc made
-    pub documents : documents_delivered e.start.documents (Some report) ≡ e.start.documents
-    pub places : places_delivered e.start (Some report) ≡ e.start.places
-    pub requests_ : requests_delivered (Some report) e.start.requests ≡ e.start.requests
+    pub own : IsMadeIn (seen_start e).documents proc made
+    pub documents : documents_delivered (seen_start e).documents (Some report) ≡ (seen_start e).documents
+    pub places : places_delivered (seen_start e) (Some report) ≡ (seen_start e).places
+    pub requests_ : requests_delivered (Some report) (seen_start e).requests ≡ (seen_start e).requests
     pub none : TellsNone (Some report)
 
   pub of_own : IsOfOwn
@@ -132,19 +133,19 @@ module _ (e : InEvent) (proc : ProcId) (report : Report) (made : Made) (del : Is
           fragment job job.task refl its_.2.0 outcome its_.1 m at (subst (IsMadeIn s.documents proc) same its_.2.2)
       by_report (reports.Died death) at is never = absurd never
 
-  pub heard_requests : heard.requests ≡ e.start.requests
+  pub heard_requests : heard.requests ≡ (seen_start e).requests
   heard_requests = ap (λ (o : Option Report). requests_delivered o s.requests) del.first ∙ of_own.requests_
 
-  pub heard_documents : heard.documents ≡ e.start.documents
+  pub heard_documents : heard.documents ≡ (seen_start e).documents
   heard_documents = ap (λ (o : Option Report). documents_delivered s.documents o) del.first ∙ of_own.documents
 
-  pub heard_places : heard.places ≡ e.start.places
+  pub heard_places : heard.places ≡ (seen_start e).places
   heard_places = ap (λ (o : Option Report). places_delivered s o) del.first ∙ of_own.places
 
-  pub heard_first : IsFirstMadeOf (desk_of e.start proc) made
+  pub heard_first : IsFirstMadeOf (desk_of (seen_start e) proc) made
   heard_first = record { report = report; first = del.first; tells = tells; quiet = of_own.quiet }
 
-  pub heard_parked : (b : Bool) → is_held_back e.start made ≡ b → heard.parked ≡ cond b (e.start.parked ++ made.req ∷ []) e.start.parked
+  pub heard_parked : (b : Bool) → is_held_back (seen_start e) made ≡ b → heard.parked ≡ cond b ((seen_start e).parked ++ made.req ∷ []) (seen_start e).parked
   heard_parked b is =
       ap (λ (o : Option Made). option_map_or (λ (m : Made). let l : List ReqId = cond (is_held_back s m) (s.parked ++ m.req ∷ []) s.parked in l) o s.parked) (ap (λ (o : Option Report). option_and_then made_of_report o) del.first ∙ tells)
       ∙ ap (λ (x : Bool). cond x (s.parked ++ made.req ∷ []) s.parked) is
@@ -154,7 +155,7 @@ module _ (e : InEvent) (proc : ProcId) (report : Report) (made : Made) (del : Is
   abbrev d : Document
   d = of_own.own.lives.d
 
-  pub its_asked : IsMadeFor e.start made
+  pub its_asked : IsMadeFor (seen_start e) made
   its_asked = by_found (request_in s.requests made.req) refl (first_made s e.event actors.Coord proc report made del.first tells stands.between.tab.known)
     where
       by_found : (o : Option Asked) → request_in s.requests made.req ≡ o → IsMadeOf (core_of o) made → IsMadeFor s made
@@ -171,7 +172,7 @@ module _ (e : InEvent) (proc : ProcId) (report : Report) (made : Made) (del : Is
   its_plain = stands.between.tab.asked.each made.req q its_asked.there
 
   -- a document of the request's navigable made it
-  pub its_nav : IsByItsOwn e.start its_asked.q made
+  pub its_nav : IsByItsOwn (seen_start e) its_asked.q made
   its_nav = by_what q.what refl its_plain.what
     where
       what_is : its_asked.known.what ≡ q.what
@@ -189,7 +190,7 @@ module _ (e : InEvent) (proc : ProcId) (report : Report) (made : Made) (del : Is
 
   -- ---- what comes
 
-  pub heard_comes : IsComing blame e.start (now_of e [])
+  pub heard_comes : IsComing blame (seen_start e) (now_of e [])
   heard_comes =
       told_comes e proc del.by_coord del.own t queue blame stands aside report del.first heard_requests (λ p. p) itself (heard_places ∙ sym (map-id s.places)) heard_documents
 
@@ -202,10 +203,9 @@ module _ (e : InEvent) (proc : ProcId) (report : Report) (made : Made) (del : Is
       (subst (λ (l : List Document). length l ≤ s.jobs + 1) (sym heard_documents) stands.tied.few)
 
   -- with this at hand, and what waits
-  pub heard_begun : HasRoomFor e.start → t.kept.keep ≡ e.header.keep → (hand : List Made) → IsTab t.running check.loads hand heard → AreHeldUp t.running heard → (left : Queue) → IsQueueing (record { event = e; loads = check.loads; hand = hand }) [] t left → HasBegun (record { event = e; loads = check.loads; hand = hand }) t left blame
-  heard_begun room header hand tab held left queueing =
-      begun (record { event = e; loads = check.loads; hand = hand }) t left blame stands.between stands.lasts stands.tied.goal header aside (ap (λ (k : RowKind). leads k) del.own) (subst (λ (a : Actor). IsWorker a) (sym del.by_coord) tt)
-      (told_legal e proc del.by_coord del.own t queue blame stands aside report del.first)
+  pub heard_begun : HasLogged e t.checks → HasRoomFor (seen_start e) → t.kept.keep ≡ e.header.keep → (hand : List Made) → IsTab t.running check.loads hand heard → AreHeldUp t.running heard → (left : Queue) → IsQueueing (record { event = e; loads = check.loads; hand = hand }) [] t left → HasBegun (record { event = e; loads = check.loads; hand = hand }) t left blame
+  heard_begun logged room header hand tab held left queueing =
+      begun (record { event = e; loads = check.loads; hand = hand }) t left blame stands.between stands.lasts stands.tied.goal header logged (ap (λ (k : RowKind). leads k) del.own) (subst (λ (a : Actor). IsWorker a) (sym del.by_coord) tt)
       heard_tied
       (told_going e proc del.by_coord del.own t queue blame stands aside report del.first heard_requests room check.loads hand tab held (rw heard_places stands.lasts.counted.epochs))
       (told_rests e proc del.by_coord del.own t queue blame stands aside report del.first)
@@ -213,12 +213,12 @@ module _ (e : InEvent) (proc : ProcId) (report : Report) (made : Made) (del : Is
 
   -- ---- what needn't be taken up in the event
 
-  pub unneeded_takes : is_taken_up_at_once e.start made ≡ false → (later : List LogRow) → IsTakenIn e later
+  pub unneeded_takes : is_taken_up_at_once (seen_start e) made ≡ false → (later : List LogRow) → IsTakenIn e later
   unneeded_takes never later =
-      subst (λ (r : LogRow). is_delivered_duly (point_at (start_of e) later) r ≡ true) (sym (told_row e proc del.by_coord del.own t queue blame stands aside report del.first)) (rw (del.first) (rw tells (rw never refl)))
+      subst (λ (r : LogRow). is_delivered_duly (point_at (start_of e) later) r ≡ true) (sym (told_row e proc del.by_coord del.own t queue blame stands aside report del.first)) (rw (del.real_first) (rw (made_real del.real report del.quiet ∙ tells) (rw (sym (up_start e del.unheld made) ∙ never) refl)))
 
   -- so it is of what is held back
-  pub held_takes : is_held_back e.start made ≡ true → (later : List LogRow) → IsTakenIn e later
+  pub held_takes : is_held_back (seen_start e) made ≡ true → (later : List LogRow) → IsTakenIn e later
   held_takes held =
       unneeded_takes (no_more (changes_history made.what) (is_in_place s made) (is_held_up s made) held)
     where

@@ -1,5 +1,5 @@
 -- The coordinator of a tab that was just opened stands for its log.
-use Rattle.unload_check.specs.Checks.{check_of}
+use Rattle.checking_facts.proofs.Rows.{none_checks}
 use Rattle.leave_facts.proofs.Carried.{opened_duly}
 use Rattle.log_model.specs.declared.job.Job.{Job}
 use Rattle.seen_facts.specs.Place.Standing.{AreStanding}
@@ -44,7 +44,7 @@ use Rattle.tab_settles.proofs.Lates.{told_known}
 use Rattle.tab_settles.proofs.MovedRows.{shown_idle}
 use Rattle.tab_stands.proofs.LateEvents.{off_of}
 use Rattle.tab_stands.specs.Offs.{AreShownUnder, IsUnderEpoch, is_new_place}
-use Rattle.tab_stands.specs.Standing.{Lasts, StandsFor, none_in_check, opened_at}
+use Rattle.tab_stands.specs.Standing.{Lasts, LastsInLog, StandsFor, none_in_check, opened_at}
 use Rattle.log_model.specs.declared.row_kind.Actor.TheVariants as actors
 
 some_same : {A : Type 0} {a b : A} → (let o : Option A = Some a in o) ≡ Some b → a ≡ b
@@ -164,7 +164,6 @@ module _ (address : List ℕ) (proc : ProcId) where
         initial = is.initial;
         loads = rw is.loads (opened_tied s refl);
         kept = ap (λ k. k.states) is.kept;
-        checks = λ req. ap (check_of req) is.checks;
       }
 
   -- ---- the one navigable, its entry and its document
@@ -261,9 +260,16 @@ module _ (address : List ℕ) (proc : ProcId) where
         made = λ req q made there load makes. absurd (none_asked req q there);
         makes = no_orders (λ (job : Job). IsMake job.task → MayCause s job.why);
         sound = no_orders (λ (job : Job). IsSoundTask s job.doc job.task);
+        off = off_of s (record { unshown = shows.unshown; top_ = shows.top_ }) standing None calm (told_known None s (λ nav p doc found wakes. ap (λ (x : Place). x.is_delivered) (sym (only_place nav p found))));
+      }
+
+  -- and of the log itself
+  pub fresh_lasts : (checking : ReqId → Bool) → LastsInLog checking s
+  fresh_lasts checking =
+      record {
+        checks = none_checks checking s refl;
         shows = shows;
         duly = opened_duly 0 actors.Start (record { maker = 0; nr = 1 }) (record { 0 = 1 }) (record { 0 = 1 }) proc None address;
-        off = off_of s shows standing None calm (told_known None s (λ nav p doc found wakes. ap (λ (x : Place). x.is_delivered) (sym (only_place nav p found))));
       }
 
   pub fresh_stands : (keep : ℕ) (t : Tables) (queue : Queue) → IsFresh address proc keep t → queue ≡ record { waiting = []; parked = [] } → StandsFor none_in_check s t queue []

@@ -1,6 +1,5 @@
 -- Orders on their way that make documents are for what orders may be for, over an event's own row and a refusal.
-use Rattle.tab_doors.proofs.Uncut.{uncut_now}
-use Rattle.tab_stands.specs.Standing.{StartsUnasked}
+use Rattle.tab_stands.specs.Standing.{IsOwnRead, seen_start}
 use Rattle.seen_facts.proofs.Coord.Unread.{next}
 use Rattle.log_model.specs.Seen.{Asked, Seen}
 use Rattle.log_model.specs.declared.job.Job.{Job}
@@ -40,9 +39,9 @@ own_within (rows.Evicted state) is = tt
 own_within (rows.Delivered proc) is = tt
 own_within _ is = absurd (let never : false ≡ true = is in cc)
 
-pub makes_first : (e : InEvent) → StartsUnasked e → leads e.own ≡ true → ((req : ReqId) → MayServe e.start req → MayServe (now_of e []) req) → MakesServe e.start → MakesServe (now_of e [])
+pub makes_first : (e : InEvent) → IsOwnRead e → leads e.own ≡ true → ((req : ReqId) → MayServe (seen_start e) req → MayServe (now_of e []) req) → MakesServe (seen_start e) → MakesServe (now_of e [])
 makes_first e aside own serves makes =
-    makes_after e.start (now_of e []) e.event e.actor e.own (own_within e.own own) unsent serves (uncut_now e aside.uncut aside.plain) makes
+    makes_after (seen_start e) (now_of e []) e.event e.actor e.own (own_within e.own own) unsent serves (sym aside) makes
   where
     unsent : (job : Job) → e.own ≡ rows.Sent job → ⊥
     unsent job is = let never : false ≡ true = sym (ap (λ (k : RowKind). leads k) is) ∙ own in absurd cc
@@ -56,9 +55,9 @@ sound_after s n event actor kind within unsent keeps is sound =
     here : Job → Type 0
     here job = IsSoundTask n job.doc job.task
 
-pub sound_first : (e : InEvent) → StartsUnasked e → leads e.own ≡ true → KeepsWhat e.start (now_of e []) → OrdersAreSound e.start → OrdersAreSound (now_of e [])
+pub sound_first : (e : InEvent) → IsOwnRead e → leads e.own ≡ true → KeepsWhat (seen_start e) (now_of e []) → OrdersAreSound (seen_start e) → OrdersAreSound (now_of e [])
 sound_first e aside own keeps sound =
-    sound_after e.start (now_of e []) e.event e.actor e.own (own_within e.own own) unsent keeps (uncut_now e aside.uncut aside.plain) sound
+    sound_after (seen_start e) (now_of e []) e.event e.actor e.own (own_within e.own own) unsent keeps (sym aside) sound
   where
     unsent : (job : Job) → e.own ≡ rows.Sent job → ⊥
     unsent job is = let never : false ≡ true = sym (ap (λ (k : RowKind). leads k) is) ∙ own in absurd cc

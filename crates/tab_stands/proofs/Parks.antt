@@ -33,8 +33,8 @@ use Rattle.tab_ids.specs.declared.ReqId.{ReqId}
 use Rattle.tab_ids.specs.declared.StateId.{StateId}
 use Rattle.tab_settles.proofs.PassedOn.{running_is}
 use Rattle.tab_stands.proofs.Mades.{its_asked, its_nav}
-use Rattle.tab_stands.specs.Delivering.{IsDelivery, IsToldOf}
-use Rattle.tab_stands.specs.Standing.{InCheck, StandsFor, StartsUnasked}
+use Rattle.tab_stands.specs.Delivering.{IsSeenDelivery, IsToldOf}
+use Rattle.tab_stands.specs.Standing.{InCheck, IsOwnRead, StandsFor, seen_start}
 use Rattle.tab_settles.specs.PassedOn.{HasNode, IsByItsOwn, judged_in, nav_found}
 use Rattle.sync_core.specs.declared.judging.Judged.TheVariants as verdicts
 
@@ -55,9 +55,9 @@ awake_on p wakes = by_status p.status refl wakes
     by_status lost is h = absurd cc
     by_status asleep is h = absurd cc
 
-module _ (e : InEvent) (proc : ProcId) (report : Report) (made : Made) (del : IsDelivery e proc report) (tells : IsToldOf report made) (t : Tables) (queue : Queue) (blame : List (StateId × ReqId)) {check : InCheck} (stands : StandsFor check e.start t queue blame) (aside : StartsUnasked e) where
+module _ (e : InEvent) (proc : ProcId) (report : Report) (made : Made) (del : IsSeenDelivery e proc report) (tells : IsToldOf report made) (t : Tables) (queue : Queue) (blame : List (StateId × ReqId)) {check : InCheck} (stands : StandsFor check (seen_start e) t queue blame) (aside : IsOwnRead e) where
   abbrev s : Seen
-  s = e.start
+  s = seen_start e
 
   abbrev own : IsByItsOwn s (its_asked e proc report made del tells t queue blame stands aside).q made
   own = its_nav e proc report made del tells t queue blame stands aside
@@ -156,7 +156,7 @@ module _ (e : InEvent) (proc : ProcId) (report : Report) (made : Made) (del : Is
   all_three true true true false ea ep er never = absurd cc
 
   -- what is judged to wait is held back, since who is awake and was moved by the traversal that runs was shown a document by it
-  pub parks_held : changes_history made.what ≡ true → judged_in t made ≡ Some verdicts.Park → is_held_back e.start made ≡ true
+  pub parks_held : changes_history made.what ≡ true → judged_in t made ≡ Some verdicts.Park → is_held_back (seen_start e) made ≡ true
   parks_held changes is =
       all_three (changes_history made.what) (is_present s made) (holds (λ (x : Document). has_row x.nav s.history.rows) (document_of s made.doc)) (is_held_up s made) changes (present_is ∙ waits.now_) (row_is ∙ has_entry (sym node_.tied.destroyed_by ∙ waits.none)) (by_run t.running refl)
     where
@@ -176,7 +176,7 @@ module _ (e : InEvent) (proc : ProcId) (report : Report) (made : Made) (del : Is
           held_is (Some run) at ∙ ap (λ (o : Option Asked). holds (λ (q : Asked). has_nav q.activated d.nav) o) ran.found ∙ stands.lasts.moved run ran.q d.nav place wakes.0 at ran.found has.found wakes.1 moved
 
   -- what is held back is judged to wait
-  pub held_parks : is_held_back e.start made ≡ true → judged_in t made ≡ Some verdicts.Park
+  pub held_parks : is_held_back (seen_start e) made ≡ true → judged_in t made ≡ Some verdicts.Park
   held_parks held =
       judged_as ∙ ap (λ (v : Judged). let o : Option Judged = Some v in o) verdict
     where
@@ -213,7 +213,7 @@ module _ (e : InEvent) (proc : ProcId) (report : Report) (made : Made) (del : Is
       verdict = rw (node_.there, none, now_, moves) refl
 
   -- so what is judged otherwise is at hand
-  pub judged_free : (verdict : Judged) → judged_in t made ≡ Some verdict → (verdict ≡ verdicts.Park → ⊥) → is_held_back e.start made ≡ false
+  pub judged_free : (verdict : Judged) → judged_in t made ≡ Some verdict → (verdict ≡ verdicts.Park → ⊥) → is_held_back (seen_start e) made ≡ false
   judged_free verdict judged_ apart = by_held (is_held_back s made) refl
     where
       by_held : (b : Bool) → is_held_back s made ≡ b → b ≡ false

@@ -12,3 +12,4 @@ pub use Rattle.leave_facts.proofs.Applied.{FitsWell}
 pub use Rattle.leave_facts.proofs.Carried.{AreLeftDuly, change_duly, row_duly}
 pub use Rattle.tab_stands.proofs.DulyEvents.{finished_duly}
 pub use Rattle.leave_facts.proofs.Readies.{is_made}
+pub use Rattle.checking_facts.proofs.Rows.{row_checks}

@@ -35,8 +35,8 @@ use Rattle.tab_stands.proofs.Coming.{IsComing}
 use Rattle.tab_stands.proofs.Dones.{AsksNone, did, did_now, did_requests, itself}
 use Rattle.tab_stands.proofs.Reports.{told_causes, told_kept}
 use Rattle.tab_stands.proofs.Unmade.{d, documents_now, its_found, its_number, its_state, made_at, not_ready, places_now, sole_one, the_one, undiscarded, unknown}
-use Rattle.tab_stands.specs.Delivering.{IsDelivery, IsMadeNoted, IsNotedFor}
-use Rattle.tab_stands.specs.Standing.{InCheck, StandsFor, StartsUnasked}
+use Rattle.tab_stands.specs.Delivering.{IsSeenDelivery, IsMadeNoted, IsNotedFor}
+use Rattle.tab_stands.specs.Standing.{InCheck, IsOwnRead, StandsFor, seen_start}
 use Rattle.log_model.specs.declared.job.Task.TheVariants as tasks
 use Rattle.log_model.specs.declared.made.Report.TheVariants as reports
 use Rattle.log_model.specs.declared.row_kind.Actor.TheVariants as actors
@@ -51,9 +51,9 @@ states_alike old new keep (doc ∷ docs) = by_state (state_in old doc) refl (sta
     by_state None is rest = rw (keep doc ∙ is, is) rest
     by_state (Some x) is rest = rw (keep doc ∙ is, is) (ap (λ (l : List StateId). x ∷ l) rest)
 
-module _ (e : InEvent) (proc : ProcId) (job : Job) (outcome : Outcome) (del : IsDelivery e proc (reports.Done job outcome None)) (t : Tables) (queue : Queue) (blame : List (StateId × ReqId)) {check : InCheck} (stands : StandsFor check e.start t queue blame) (aside : StartsUnasked e) (nav : NavId) (state : StateId) (address : List ℕ) (initial : Bool) (task : job.task ≡ tasks.Populate nav state address initial) where
+module _ (e : InEvent) (proc : ProcId) (job : Job) (outcome : Outcome) (del : IsSeenDelivery e proc (reports.Done job outcome None)) (t : Tables) (queue : Queue) (blame : List (StateId × ReqId)) {check : InCheck} (stands : StandsFor check (seen_start e) t queue blame) (aside : IsOwnRead e) (nav : NavId) (state : StateId) (address : List ℕ) (initial : Bool) (task : job.task ≡ tasks.Populate nav state address initial) where
   abbrev s : Seen
-  s = e.start
+  s = seen_start e
 
   abbrev n : Seen
   n = did e proc job outcome del t queue blame stands aside
@@ -76,7 +76,7 @@ module _ (e : InEvent) (proc : ProcId) (job : Job) (outcome : Outcome) (del : Is
   pub made_asks : AsksNone job.task
   made_asks = subst (λ (k : Task). AsksNone k) (sym task) tt
 
-  abbrev same : n.requests ≡ e.start.requests
+  abbrev same : n.requests ≡ (seen_start e).requests
   same = did_requests e proc job outcome del t queue blame stands aside made_asks
 
   places_same : n.places ≡ s.places
@@ -96,10 +96,10 @@ module _ (e : InEvent) (proc : ProcId) (job : Job) (outcome : Outcome) (del : Is
   pub made_state : (x : Document) → (made_if x).state ≡ x.state
   made_state x = elim (x.nr.0 == job.doc.0) as (λ b. (let y : Document = cond b (record x { is_ready = true; is_fresh = true }) x in y).state ≡ x.state) [ true ↦ refl | false ↦ refl ]
 
-  pub documents_are : n.documents ≡ map made_if e.start.documents
+  pub documents_are : n.documents ≡ map made_if (seen_start e).documents
   documents_are = documents_now e proc job outcome del t queue blame stands aside nav state address initial task
 
-  pub made_then : (doc : DocId) → document_of n doc ≡ option_map made_if (document_of e.start doc)
+  pub made_then : (doc : DocId) → document_of n doc ≡ option_map made_if (document_of (seen_start e) doc)
   made_then doc =
       ap (λ (l : List Document). document_in l doc) documents_are
       ∙ find_map (λ (x : Document). x.nr.0) made_if doc.0 s.documents (λ x. ap (λ (i : DocId). i.0) (made_nr x))
@@ -107,7 +107,7 @@ module _ (e : InEvent) (proc : ProcId) (job : Job) (outcome : Outcome) (del : Is
   -- the document before
   pub record WasDoc (doc : DocId) (x : Document) : Type 0 where
     pub before : Document
-    pub found : document_of e.start doc ≡ Some before
+    pub found : document_of (seen_start e) doc ≡ Some before
     pub is : made_if before ≡ x
 
   pub was_doc : (doc : DocId) (x : Document) → document_of n doc ≡ Some x → WasDoc doc x
@@ -131,7 +131,7 @@ module _ (e : InEvent) (proc : ProcId) (job : Job) (outcome : Outcome) (del : Is
           inl (the_one e proc job outcome del t queue blame stands aside nav state address initial task was.before found.0 at, ap (λ (i : ℕ). let y : DocId = record { 0 = i } in y) (sym number ∙ eqb-true was.before.nr.0 job.doc.0 at))
       by_test false at = inr (at, sym (ap (λ (b : Bool). let y : Document = cond b (record was.before { is_ready = true; is_fresh = true }) was.before in y) at) ∙ was.is)
 
-  pub states_kept : KeepStates e.start.documents n.documents
+  pub states_kept : KeepStates (seen_start e).documents n.documents
   states_kept = states_stay s (rows.Delivered proc) tt
 
   -- ---- loads have their documents
@@ -266,6 +266,6 @@ module _ (e : InEvent) (proc : ProcId) (job : Job) (outcome : Outcome) (del : Is
           unstood = λ off away. unstood_by s (record { event = e.event; actor = actors.Coord; row = rows.Delivered proc }) refl away off;
         }
 
-    pub made_comes : IsComing noted e.start (now_of e [])
+    pub made_comes : IsComing noted (seen_start e) (now_of e [])
     made_comes =
         subst (λ (x : Seen). IsComing noted s x) (sym (did_now e proc job outcome del t queue blame stands aside)) made_coming

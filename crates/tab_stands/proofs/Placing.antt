@@ -1,4 +1,5 @@
 -- A report tells that a document was made: it is noted, the step of the load that waited for it joins the queue, and all goes on.
+use Rattle.unload_check.specs.Checks.{OpenCheck}
 use Rattle.seen_facts.proofs.Hang.Members.{IsOf, Passing, any_has, find_has, has_any, has_found, has_map}
 use Rattle.seen_facts.specs.Hang.Members.{Has}
 use Rattle.seen_facts.specs.Kept.Keeping.{state_in}
@@ -53,10 +54,10 @@ use Rattle.tab_ids.specs.declared.StateId.{StateId}
 use Rattle.tab_stands.proofs.Begun.{begun}
 use Rattle.tab_stands.proofs.Dones.{did, did_now, did_parked, did_joined, did_queueing, did_requests, did_tab}
 use Rattle.tab_stands.proofs.Placed.{documents_are, made_asks, made_comes, made_state, states_alike, states_kept}
-use Rattle.tab_stands.proofs.Reports.{between_as, goal_as, lasts_as, told_going, told_held, told_kept, told_legal, told_moved, told_rests, told_tied}
+use Rattle.tab_stands.proofs.Reports.{between_as, goal_as, lasts_as, told_going, told_held, told_kept, told_moved, told_rests, told_tied}
 use Rattle.tab_stands.proofs.Unmade.{being, d, documents_now, its_found, its_number, its_outcome, its_own, its_state, made_at, made_of, not_ready, places_now, seen_found, sole_one, the_one, undiscarded, unknown, unplaced}
-use Rattle.tab_stands.specs.Delivering.{IsDelivery, IsMadeNoted, step_ready}
-use Rattle.tab_stands.specs.Standing.{HasBegun, HasRoomFor, InCheck, StandsFor, StartsUnasked}
+use Rattle.tab_stands.specs.Delivering.{IsSeenDelivery, IsMadeNoted, step_ready}
+use Rattle.tab_stands.specs.Standing.{HasBegun, HasLogged, HasRoomFor, InCheck, IsOwnRead, StandsFor, seen_start}
 use Rattle.load_table.specs.declared.phase.Phase.TheVariants as phases
 use Rattle.log_model.specs.declared.job.Task.TheVariants as tasks
 use Rattle.log_model.specs.declared.made.Report.TheVariants as reports
@@ -97,12 +98,12 @@ ready_of_tab table doc step has = by_found (find (is_populating doc) table) has
     by_found (Some load) (inl same) = subst (λ (x : QueueStep). IsOfTab x) same tt
     by_found (Some load) (inr never) = absurd never
 
-module _ (e : InEvent) (proc : ProcId) (job : Job) (outcome : Outcome) (del : IsDelivery e proc (reports.Done job outcome None)) (t : Tables) (queue : Queue) (blame : List (StateId × ReqId)) {check : InCheck} (stands : StandsFor check e.start t queue blame) (aside : StartsUnasked e) (nav : NavId) (state : StateId) (address : List ℕ) (initial : Bool) (task : job.task ≡ tasks.Populate nav state address initial) (one_each : HasOneEach t.loads) where
+module _ (e : InEvent) (proc : ProcId) (job : Job) (outcome : Outcome) (del : IsSeenDelivery e proc (reports.Done job outcome None)) (t : Tables) (queue : Queue) (blame : List (StateId × ReqId)) {check : InCheck} (stands : StandsFor check (seen_start e) t queue blame) (aside : IsOwnRead e) (nav : NavId) (state : StateId) (address : List ℕ) (initial : Bool) (task : job.task ≡ tasks.Populate nav state address initial) (one_each : HasOneEach t.loads) where
   abbrev report : Report
   report = reports.Done job outcome None
 
   abbrev s : Seen
-  s = e.start
+  s = seen_start e
 
   abbrev n : Seen
   n = did e proc job outcome del t queue blame stands aside
@@ -110,7 +111,7 @@ module _ (e : InEvent) (proc : ProcId) (job : Job) (outcome : Outcome) (del : Is
   abbrev own : Document
   own = d e proc job outcome del t queue blame stands aside nav state address initial task
 
-  abbrev same : n.requests ≡ e.start.requests
+  abbrev same : n.requests ≡ (seen_start e).requests
   same = did_requests e proc job outcome del t queue blame stands aside (made_asks e proc job outcome del t queue blame stands aside nav state address initial task)
 
   abbrev made_if : Document → Document
@@ -280,12 +281,11 @@ module _ (e : InEvent) (proc : ProcId) (job : Job) (outcome : Outcome) (del : Is
     abbrev p : InPass
     p = record { event = e; loads = check.loads; hand = [] }
 
-    pub placed_begun : HasRoomFor e.start → t.kept.keep ≡ e.header.keep → (left : Queue) → left ≡ record queue { waiting = queue.waiting ++ step_ready t.loads job.doc } → (noted : List (StateId × ReqId)) → IsMadeNoted (now_of e []) blame noted job.doc state → HasBegun (record { event = e; loads = check.loads; hand = [] }) u left noted
-    placed_begun room header left pushed noted notes =
-        begun p u left noted (between_as t u kept s stands.between) (lasts_as t u kept s stands.lasts) (goal_as t u kept s.requests stands.tied.goal) (kept.keep ∙ header) aside (ap (λ (k : RowKind). leads k) del.own) (subst (λ (a : Actor). IsWorker a) (sym del.by_coord) tt)
-        (told_legal e proc del.by_coord del.own t queue blame stands aside report del.first)
+    pub placed_begun : HasLogged e t.checks → HasRoomFor (seen_start e) → t.kept.keep ≡ e.header.keep → (left : Queue) → left ≡ record queue { waiting = queue.waiting ++ step_ready t.loads job.doc } → (noted : List (StateId × ReqId)) → IsMadeNoted (now_of e []) blame noted job.doc state → HasBegun (record { event = e; loads = check.loads; hand = [] }) u left noted
+    placed_begun logged room header left pushed noted notes =
+        begun p u left noted (between_as t u kept s stands.between) (lasts_as t u kept s stands.lasts) (goal_as t u kept s.requests stands.tied.goal) (kept.keep ∙ header) (subst (λ (es : List (ReqId × OpenCheck)). HasLogged e es) (sym kept.checks) logged) (ap (λ (k : RowKind). leads k) del.own) (subst (λ (a : Actor). IsWorker a) (sym del.by_coord) tt)
         tied
         (subst (λ (r : Option ReqId). IsGoing r check.loads [] (now_of e [])) (sym kept.running) (told_going e proc del.by_coord del.own t queue blame stands aside report del.first same room check.loads [] (did_tab e proc job outcome del t queue blame stands aside) (told_held e proc del.by_coord del.own t queue blame stands aside report del.first same (did_parked e proc job outcome del t queue blame stands aside)) (rw (places_now e proc job outcome del t queue blame stands aside nav state address initial task) stands.lasts.counted.epochs)))
         (told_rests e proc del.by_coord del.own t queue blame stands aside report del.first)
         (made_comes e proc job outcome del t queue blame stands aside nav state address initial task noted (subst (λ (x : Seen). IsMadeNoted x blame noted job.doc state) (did_now e proc job outcome del t queue blame stands aside) notes))
-        (did_queueing e proc job outcome del t queue blame stands aside (made_asks e proc job outcome del t queue blame stands aside nav state address initial task) u kept left (subst (λ (l : List QueueStep). HasQueue n t.running l) (sym (ap (λ (q : Queue). q.waiting) pushed)) queue_then) (ap (λ (q : Queue). q.parked) pushed))
+        (did_queueing e proc job outcome del t queue blame stands aside (made_asks e proc job outcome del t queue blame stands aside nav state address initial task) u kept logged.logged.uncut logged.plain left (subst (λ (l : List QueueStep). HasQueue n t.running l) (sym (ap (λ (q : Queue). q.waiting) pushed)) queue_then) (ap (λ (q : Queue). q.parked) pushed))

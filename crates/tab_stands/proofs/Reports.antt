@@ -1,8 +1,5 @@
 -- A report is delivered that answers no question: what is known of it, and what the event's own row leaves, whatever the report tells.
-use Rattle.tab_doors.proofs.Uncut.{uncut_now, uncut_pass}
-use Rattle.tab_doors.specs.PassedOn.{NoneChecked}
-use Rattle.unload_check.specs.Checks.{OpenCheck}
-use Rattle.seen_facts.proofs.Asked.Passed.{asked_all}
+use Rattle.load_doors.proofs.Starts.{requests_start}
 use Rattle.seen_facts.proofs.Asked.Rows.{delivered_plain}
 use Rattle.seen_facts.specs.Asked.Asking.{ArePlain}
 use Rattle.tab_facts.proofs.Calm.Loads.{loads_same}
@@ -19,11 +16,9 @@ use Rattle.seen_facts.specs.Load.Loading.{Look, is_ongoing, look, look_of}
 use Rattle.seen_facts.specs.LoadTies.Tying.{TiesLoads}
 use Rattle.log_model.specs.AfterPlaces.{kept_delivered}
 use Rattle.log_model.specs.Causes.{denial_at_acceptance}
-use Rattle.log_model.specs.Checks.{is_settled_by}
 use Rattle.log_model.specs.Equal.{has_req, holds}
 use Rattle.log_model.specs.Orders.{ongoing_load}
-use Rattle.log_model.specs.Places.{all_asked, is_moved, is_moved_in, has_passed}
-use Rattle.log_model.specs.Queue.{is_delivered_duly}
+use Rattle.log_model.specs.Places.{is_moved, is_moved_in}
 use Rattle.log_model.specs.Seen.{Asked, Document, Place, Seen, desk_of, request_in, request_of}
 use Rattle.log_model.specs.declared.job.Why.{Why}
 use Rattle.log_model.specs.declared.made.Made.{Made}
@@ -33,19 +28,16 @@ use Rattle.log_model.specs.declared.row_kind.LogRow.{LogRow}
 use Rattle.log_model.specs.declared.row_kind.RowKind.{RowKind}
 use Rattle.move_queue.specs.Queue.{Queue}
 use Rattle.seen_facts.specs.Request.Knowns.{AreKnown}
-use Rattle.seen_facts.proofs.Rest.Stands.{all_requests}
 use Rattle.row_facts.proofs.RestRows.Rows.{delivered_rests}
 use Rattle.row_facts.specs.RestRows.Moving.{AllRest}
-use Rattle.seen_laws.proofs.Deliveries.{delivered_may, delivered_row}
-use Rattle.seen_laws.specs.Blocks.{EachPass, point_at}
-use Rattle.seen_laws.specs.InEvent.{AreLegal, InEvent, IsTakenIn, now_of, row_of, start_of}
-use Rattle.std.proofs.Common.{Bool, List, None, Option, Some, [], ap, arith, false, inl, inr, length, map, not, refl, subst, sym, true, ℕ, ◌&&◌, ◌+◌, ◌<◌, ◌∙◌, ◌∷◌, ◌++◌, ◌≡◌, ◌≤◌, ◌⊎◌}
+use Rattle.seen_laws.proofs.Deliveries.{delivered_row}
+use Rattle.seen_laws.specs.InEvent.{InEvent, now_of, row_of}
+use Rattle.std.proofs.Common.{Bool, List, None, Option, Some, [], ap, arith, false, inl, inr, length, map, refl, subst, sym, true, ℕ, ◌+◌, ◌<◌, ◌∙◌, ◌≡◌, ◌≤◌, ◌⊎◌}
 use Rattle.std.proofs.lemmas.Bool.Decides.{nat_tests}
-use Rattle.std.specs.List.{list_all}
 use Rattle.std.specs.Prelude.{nat_lt, option_map, slice_get}
 use Rattle.tab_doors.specs.Look.{look_of as sights_of, moved_by}
 use Rattle.tab_doors.specs.Ties.{AreInitial, Holds, IsRunning}
-use Rattle.tab_doors.specs.Working.{HasGoal, KeepsRun}
+use Rattle.tab_doors.specs.Working.{HasGoal, KeepsRun, StartsPlain}
 use Rattle.tab_doors.specs.declared.tables.Tables.{Tables}
 use Rattle.tab_facts.specs.TabEvents.Between.{IsBetweenChecks}
 use Rattle.tab_settles.proofs.Lates.{unstood_by}
@@ -59,7 +51,7 @@ use Rattle.tab_ids.specs.declared.Step.{Step}
 use Rattle.tab_settles.specs.Settling.{IsTurning}
 use Rattle.tab_stands.proofs.Accepting.{number_low}
 use Rattle.tab_stands.proofs.Coming.{IsComing, OnlyArrives}
-use Rattle.tab_stands.specs.Standing.{HasRoomFor, InCheck, Lasts, StandsFor, StartsUnasked}
+use Rattle.tab_stands.specs.Standing.{HasRoomFor, InCheck, IsOwnRead, Lasts, StandsFor, seen_start}
 use Rattle.log_model.specs.declared.made.Report.TheVariants as reports
 use Rattle.log_model.specs.declared.row_kind.Actor.TheVariants as actors
 use Rattle.log_model.specs.declared.row_kind.RowKind.TheVariants as rows
@@ -76,46 +68,28 @@ pub goal_as : (t u : Tables) → KeepsRun t u → (asked : List Asked) → HasGo
 goal_as t u kept asked has req q is at =
     has req q (sym kept.running ∙ is) at ∙ ap (λ (g : Step). let o : Option Step = Some g in o) (sym kept.goal)
 
-module _ (e : InEvent) (proc : ProcId) (by_coord : e.actor ≡ actors.Coord) (own : e.own ≡ rows.Delivered proc) (t : Tables) (queue : Queue) (blame : List (StateId × ReqId)) {check : InCheck} (stands : StandsFor check e.start t queue blame) (aside : StartsUnasked e) (report : Report) (first : slice_get (desk_of e.start proc).reports 0 ≡ Some report) where
+module _ (e : InEvent) (proc : ProcId) (by_coord : e.actor ≡ actors.Coord) (own : e.own ≡ rows.Delivered proc) (t : Tables) (queue : Queue) (blame : List (StateId × ReqId)) {check : InCheck} (stands : StandsFor check (seen_start e) t queue blame) (aside : IsOwnRead e) (report : Report) (first : slice_get (desk_of (seen_start e) proc).reports 0 ≡ Some report) where
   abbrev s : Seen
-  s = e.start
+  s = seen_start e
 
   abbrev pub told : Seen
-  told = next e.start e.event actors.Coord (rows.Delivered proc)
+  told = next (seen_start e) e.event actors.Coord (rows.Delivered proc)
 
   pub told_now : now_of e [] ≡ told
   told_now =
-      sym (uncut_now e aside.uncut aside.plain)
-      ∙ (ap (λ (a : Actor). next e.start e.event a e.own) by_coord
-      ∙ ap (λ (k : RowKind). next e.start e.event actors.Coord k) own)
+      aside
+      ∙ (ap (λ (a : Actor). next (seen_start e) e.event a e.own) by_coord
+      ∙ ap (λ (k : RowKind). next (seen_start e) e.event actors.Coord k) own)
 
   pub told_row : row_of e e.own ≡ delivered_row e.event proc
   told_row =
       ap (λ (a : Actor). let r : LogRow = record { event = e.event; actor = a; row = e.own } in r) by_coord
       ∙ ap (λ (k : RowKind). let r : LogRow = record { event = e.event; actor = actors.Coord; row = k } in r) own
 
-  pub told_fine : NoDeath (slice_get (desk_of e.start proc).reports 0)
+  pub told_fine : NoDeath (slice_get (desk_of (seen_start e) proc).reports 0)
   told_fine = fine t.running s e.event proc stands.between.tab stands.between.flows report first
 
-  -- no question is settled
-  none_settled : list_all (λ (q : Asked). not (is_settled_by s told q)) s.requests ≡ true
-  none_settled = all_requests s.requests (λ (q : Asked). not (is_settled_by s told q)) (λ req q at. passed q (stands.between.tab.asked.passed req q at))
-    where
-      passed : (q : Asked) → has_passed s q ≡ true → not (is_settled_by s told q) ≡ true
-      passed q is =
-          let settled : all_asked s q ≡ true = asked_all s q is in
-          ap (λ (b : Bool). not (not b && holds (all_asked told) (request_of told q.nr))) settled
-
-  pub told_legal : AreLegal e []
-  unfolding AreLegal
-  told_legal later rest =
-      uncut_pass e [] later aside.uncut (subst (λ (r : LogRow). EachPass (start_of e) (r ∷ []) later) (sym told_row)
-      (delivered_may (start_of e) e.event proc report refl first none_settled later (subst (λ (r : LogRow). is_delivered_duly (point_at (start_of e) later) r ≡ true) told_row taken)))
-    where
-      taken : IsTakenIn e later
-      taken = subst (λ (l : List RowKind). IsTakenIn e ((map (row_of e) l ++ []) ++ later)) aside.uncut rest.taken
-
-  pub told_kept : told.kept ≡ e.start.kept
+  pub told_kept : told.kept ≡ (seen_start e).kept
   told_kept = ap (λ (o : Option Report). kept_delivered s o) first ∙ by_report report (subst NoDeath first told_fine)
     where
       by_report : (r : Report) → NoDeath (Some r) → kept_delivered s (Some r) ≡ s.kept
@@ -128,11 +102,11 @@ module _ (e : InEvent) (proc : ProcId) (by_coord : e.actor ≡ actors.Coord) (ow
 
   -- ---- where it leaves the requests
 
-  module _ (same : told.requests ≡ e.start.requests) where
+  module _ (same : told.requests ≡ (seen_start e).requests) where
     plain : ArePlain t.running told
     plain = delivered_plain t.running s e.event actors.Coord stands.between.tab.asked proc told_fine
 
-    pub told_causes : (why : Why) → MayCause e.start why → MayCause told why
+    pub told_causes : (why : Why) → MayCause (seen_start e) why → MayCause told why
     told_causes =
         causes_on s told t.running plain (λ req. ap (λ (l : List Asked). option_map wish (request_in l req)) same) (λ this each. subst (λ (l : List Asked). EachAsked (IsBegun this) l) (sym same) each)
 
@@ -149,13 +123,14 @@ module _ (e : InEvent) (proc : ProcId) (by_coord : e.actor ≡ actors.Coord) (ow
     early : (req : ReqId) (q : Asked) → request_of (now_of e []) req ≡ Some q → denial_at_acceptance e.start q.what ≡ None ⊎ (nat_lt (length e.start.requests) req.0 ≡ false)
     early req q at =
         let low : req.0 ≤ length s.requests = number_low s.requests req q (ap (λ (l : List Asked). request_in l req) (sym same) ∙ ap (λ (x : Seen). request_of x req) (sym told_now) ∙ at) in
-        inr (grind (arith, nat_tests, low))
+        let many : length s.requests ≡ length e.start.requests = requests_start e in
+        inr (grind (arith, nat_tests, low, many))
 
-    pub told_turning : AreKnown told → IsTurning e []
-    told_turning known = turning_first e aside.uncut (subst (λ (x : Seen). AreKnown x) (sym told_now) known) (λ req q has at. early req q at) aside.plain
+    pub told_turning : AreKnown told → e.before ≡ [] → StartsPlain e → IsTurning e []
+    told_turning known uncut plain_start = turning_first e uncut (subst (λ (x : Seen). AreKnown x) (sym told_now) known) (λ req q has at. early req q at) plain_start
 
     -- nothing is held back that wasn't before
-    pub told_held : told.parked ≡ e.start.parked → AreHeldUp t.running told
+    pub told_held : told.parked ≡ (seen_start e).parked → AreHeldUp t.running told
     told_held parked = by_run t.running stands.lasts.held
       where
         by_run : (o : Option ReqId) → AreHeldUp o s → AreHeldUp o told
@@ -165,7 +140,7 @@ module _ (e : InEvent) (proc : ProcId) (by_coord : e.actor ≡ actors.Coord) (ow
 
     -- ---- what goes on
 
-    pub told_going : HasRoomFor e.start → (ids : List ReqId) (hand : List Made) → IsTab t.running ids hand told → AreHeldUp t.running told → AreUpTo (e.start.jobs + 1) told.places → IsGoing t.running ids hand (now_of e [])
+    pub told_going : HasRoomFor (seen_start e) → (ids : List ReqId) (hand : List Made) → IsTab t.running ids hand told → AreHeldUp t.running told → AreUpTo ((seen_start e).jobs + 1) told.places → IsGoing t.running ids hand (now_of e [])
     told_going room ids hand tab held epochs = subst (λ (x : Seen). IsGoing t.running ids hand x) (sym told_now) going
       where
         going : IsGoing t.running ids hand told
@@ -185,7 +160,7 @@ module _ (e : InEvent) (proc : ProcId) (by_coord : e.actor ≡ actors.Coord) (ow
 
     -- ---- the tables
 
-    pub told_tied : (u : Tables) → KeepsRun t u → Holds (sights_of told t.running) u → TiesLoads told u.loads → u.initial.entries ≡ t.initial.entries → u.kept.states ≡ kept_states told → length told.documents ≤ e.start.jobs + 1 → AreTied (now_of e []) u
+    pub told_tied : (u : Tables) → KeepsRun t u → Holds (sights_of told t.running) u → TiesLoads told u.loads → u.initial.entries ≡ t.initial.entries → u.kept.states ≡ kept_states told → length told.documents ≤ (seen_start e).jobs + 1 → AreTied (now_of e []) u
     told_tied u kept holds_ loads initial states few = subst (λ (x : Seen). AreTied x u) (sym told_now) tied
       where
         tied : AreTied told u
@@ -198,15 +173,14 @@ module _ (e : InEvent) (proc : ProcId) (by_coord : e.actor ≡ actors.Coord) (ow
               initial = subst (λ (l : List (StateId × Unit {0})). AreInitial told.initial_states l) (sym initial) stands.tied.initial;
               loads = loads;
               kept = states;
-              checks = subst (λ (es : List (ReqId × OpenCheck)). NoneChecked es) (sym kept.checks) stands.tied.checks;
             }
 
-    pub told_moved : moved_by told.requests t.running ≡ moved_by e.start.requests t.running
+    pub told_moved : moved_by told.requests t.running ≡ moved_by (seen_start e).requests t.running
     told_moved = ap (λ (l : List Asked). moved_by l t.running) same
 
     -- ---- what comes, where documents are as they were
 
-    module _ (g : Place → Place) (arrives : OnlyArrives g) (places : told.places ≡ map g e.start.places) (documents : told.documents ≡ e.start.documents) where
+    module _ (g : Place → Place) (arrives : OnlyArrives g) (places : told.places ≡ map g (seen_start e).places) (documents : told.documents ≡ (seen_start e).documents) where
       strays_still : AreLeftStrays told blame
       strays_still doc state stray =
           let was : IsStray s doc state = record { document = stray.document; found = ap (λ (l : List Document). document_in l doc) (sym documents) ∙ stray.found; its_state = stray.its_state; ready = stray.ready; undiscarded = stray.undiscarded; bare = stray.bare; unloaded = sym (loaded_same state) ∙ stray.unloaded } in
@@ -240,5 +214,5 @@ module _ (e : InEvent) (proc : ProcId) (by_coord : e.actor ≡ actors.Coord) (ow
             unstood = λ off away. unstood_by s (record { event = e.event; actor = actors.Coord; row = rows.Delivered proc }) refl away off;
           }
 
-      pub told_comes : IsComing blame e.start (now_of e [])
+      pub told_comes : IsComing blame (seen_start e) (now_of e [])
       told_comes = subst (λ (x : Seen). IsComing blame s x) (sym told_now) coming

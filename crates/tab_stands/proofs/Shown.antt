@@ -44,9 +44,9 @@ use Rattle.tab_settles.specs.PassedOn.{InPass}
 use Rattle.tab_stands.proofs.Begun.{begun}
 use Rattle.tab_stands.proofs.Coming.{OnlyArrives}
 use Rattle.tab_stands.proofs.Dones.{AsksNone, did, did_outcome, did_parked, did_queue, did_queueing, did_requests, did_tab}
-use Rattle.tab_stands.proofs.Reports.{told_comes, told_going, told_held, told_kept, told_legal, told_moved, told_rests, told_tied}
-use Rattle.tab_stands.specs.Delivering.{IsDelivery, IsShowTask}
-use Rattle.tab_stands.specs.Standing.{HasBegun, HasRoomFor, InCheck, StandsFor, StartsUnasked}
+use Rattle.tab_stands.proofs.Reports.{told_comes, told_going, told_held, told_kept, told_moved, told_rests, told_tied}
+use Rattle.tab_stands.specs.Delivering.{IsSeenDelivery, IsShowTask}
+use Rattle.tab_stands.specs.Standing.{HasBegun, HasLogged, HasRoomFor, InCheck, IsOwnRead, StandsFor, seen_start}
 use Rattle.seen_facts.specs.Transit.Orders.{IsOutcomeOf}
 use Rattle.log_model.specs.declared.job.Task.TheVariants as tasks
 use Rattle.log_model.specs.declared.made.Report.TheVariants as reports
@@ -84,12 +84,12 @@ same_epoch : (nav : NavId) (job : Job) (p : Place) → (let x : Place = cond (p.
 same_epoch nav job p =
     elim (p.nav.0 == nav.0) as (λ b. (let x : Place = cond b (place_arrived job p) p in x).epoch ≡ p.epoch) [ true ↦ refl | false ↦ refl ]
 
-module _ (e : InEvent) (proc : ProcId) (job : Job) (outcome : Outcome) (del : IsDelivery e proc (reports.Done job outcome None)) (t : Tables) (queue : Queue) (blame : List (StateId × ReqId)) {check : InCheck} (stands : StandsFor check e.start t queue blame) (aside : StartsUnasked e) where
+module _ (e : InEvent) (proc : ProcId) (job : Job) (outcome : Outcome) (del : IsSeenDelivery e proc (reports.Done job outcome None)) (t : Tables) (queue : Queue) (blame : List (StateId × ReqId)) {check : InCheck} (stands : StandsFor check (seen_start e) t queue blame) (aside : IsOwnRead e) where
   abbrev report : Report
   report = reports.Done job outcome None
 
   abbrev s : Seen
-  s = e.start
+  s = seen_start e
 
   abbrev n : Seen
   n = did e proc job outcome del t queue blame stands aside
@@ -122,7 +122,7 @@ module _ (e : InEvent) (proc : ProcId) (job : Job) (outcome : Outcome) (del : Is
         by_task (tasks.Populate nav state address initial) never = absurd never
         by_task (tasks.Ask slot cause) never = absurd never
 
-    abbrev same : n.requests ≡ e.start.requests
+    abbrev same : n.requests ≡ (seen_start e).requests
     same = did_requests e proc job outcome del t queue blame stands aside asks
 
     its_outcome : outcome ≡ outcomes.Activated
@@ -188,16 +188,15 @@ module _ (e : InEvent) (proc : ProcId) (job : Job) (outcome : Outcome) (del : Is
     abbrev p : InPass
     p = record { event = e; loads = check.loads; hand = [] }
 
-    begun_noted : HasRoomFor e.start → t.kept.keep ≡ e.header.keep → HasBegun (record { event = e; loads = check.loads; hand = [] }) noted queue blame
-    begun_noted room header =
-        begun p noted queue blame stands.between stands.lasts stands.tied.goal header aside (ap (λ (k : RowKind). leads k) del.own) (subst (λ (a : Actor). IsWorker a) (sym del.by_coord) tt)
-        (told_legal e proc del.by_coord del.own t queue blame stands aside report del.first)
+    begun_noted : HasLogged e t.checks → HasRoomFor (seen_start e) → t.kept.keep ≡ e.header.keep → HasBegun (record { event = e; loads = check.loads; hand = [] }) noted queue blame
+    begun_noted logged room header =
+        begun p noted queue blame stands.between stands.lasts stands.tied.goal header logged (ap (λ (k : RowKind). leads k) del.own) (subst (λ (a : Actor). IsWorker a) (sym del.by_coord) tt)
         tied
         (told_going e proc del.by_coord del.own t queue blame stands aside report del.first same room check.loads [] (did_tab e proc job outcome del t queue blame stands aside) (told_held e proc del.by_coord del.own t queue blame stands aside report del.first same (did_parked e proc job outcome del t queue blame stands aside)) epochs_then)
         (told_rests e proc del.by_coord del.own t queue blame stands aside report del.first)
         (told_comes e proc del.by_coord del.own t queue blame stands aside report del.first same g (arrives_at d.nav job) places_are documents_same)
-        (did_queueing e proc job outcome del t queue blame stands aside asks noted kept_run queue (did_queue e proc job outcome del t queue blame stands aside asks documents_same) refl)
+        (did_queueing e proc job outcome del t queue blame stands aside asks noted kept_run logged.logged.uncut logged.plain queue (did_queue e proc job outcome del t queue blame stands aside asks documents_same) refl)
 
-    pub shown_begun : HasRoomFor e.start → t.kept.keep ≡ e.header.keep → (u : Tables) → u ≡ record t { tree = shown_tree t job.doc job.nr } → HasBegun (record { event = e; loads = check.loads; hand = [] }) u queue blame
-    shown_begun room header u is =
-        subst (λ (x : Tables). HasBegun (record { event = e; loads = check.loads; hand = [] }) x queue blame) (sym is) (begun_noted room header)
+    pub shown_begun : HasLogged e t.checks → HasRoomFor (seen_start e) → t.kept.keep ≡ e.header.keep → (u : Tables) → u ≡ record t { tree = shown_tree t job.doc job.nr } → HasBegun (record { event = e; loads = check.loads; hand = [] }) u queue blame
+    shown_begun logged room header u is =
+        subst (λ (x : Tables). HasBegun (record { event = e; loads = check.loads; hand = [] }) x queue blame) (sym is) (begun_noted logged room header)

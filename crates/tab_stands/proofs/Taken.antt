@@ -1,4 +1,6 @@
 -- What a document made was taken up, refused or dropped as its report was delivered: the tab may be brought to rest.
+use Rattle.row_facts.specs.WalkRows.Since.{WasAwake}
+use Rattle.load_doors.proofs.Starts.{made_real, up_start}
 use Rattle.log_model.specs.Queue.{is_traverse}
 use Rattle.seen_laws.proofs.InEvents.{now_at}
 use Rattle.seen_facts.specs.Asked.Asking.{IsTabRequest}
@@ -55,9 +57,9 @@ use Rattle.tab_stands.proofs.Mades.{IsMadeFor, heard, heard_comes, heard_documen
 use Rattle.tab_stands.proofs.Ready.{calm_before}
 use Rattle.tab_stands.proofs.Reports.{told_row}
 use Rattle.tab_stands.proofs.Taking.{begun, there_now, unparked_now, unstarted}
-use Rattle.tab_stands.specs.Delivering.{IsDelivery, IsToldOf}
+use Rattle.tab_stands.specs.Delivering.{IsSeenDelivery, IsToldOf}
 use Rattle.tab_stands.specs.Offs.{AreOffKnown, IsOffSince}
-use Rattle.tab_stands.specs.Standing.{HasBegun, HasRoomFor, InCheck, IsTakenUp, StandsFor, StartsUnasked}
+use Rattle.tab_stands.specs.Standing.{HasBegun, HasLogged, HasRoomFor, InCheck, IsOwnRead, IsTakenUp, StandsFor, seen_start}
 use Rattle.seen_facts.proofs.Walk.Placed.{found_nav}
 use Rattle.log_model.specs.declared.request.Request.TheVariants as requests
 use Rattle.log_model.specs.declared.job.Why.TheVariants as whys
@@ -81,9 +83,9 @@ theirs_ended s n req its theirs r q made at load makes =
     by_home (Some d) there same =
         record { d = d; found = there; nav_is = ap (λ (w : Wish). nav_of_request w.what) (sym asked.2) ∙ had.nav_is ∙ sym same }
 
-module _ (e : InEvent) (proc : ProcId) (report : Report) (made : Made) (del : IsDelivery e proc report) (tells : IsToldOf report made) (t : Tables) (queue : Queue) (blame : List (StateId × ReqId)) {check : InCheck} (stands : StandsFor check e.start t queue blame) (aside : StartsUnasked e) (changes : changes_history made.what ≡ true) (free : is_held_back e.start made ≡ false) (room : HasRoomFor e.start) (header : t.kept.keep ≡ e.header.keep) (out : List RowKind) (u : Tables) (noted : List (StateId × ReqId)) (taken : HasTaken (record { event = e; loads = check.loads; hand = made ∷ [] }) t made [] out u noted) where
+module _ (e : InEvent) (proc : ProcId) (report : Report) (made : Made) (del : IsSeenDelivery e proc report) (tells : IsToldOf report made) (t : Tables) (queue : Queue) (blame : List (StateId × ReqId)) {check : InCheck} (stands : StandsFor check (seen_start e) t queue blame) (aside : IsOwnRead e) (changes : changes_history made.what ≡ true) (free : is_held_back (seen_start e) made ≡ false) (logged : HasLogged e t.checks) (room : HasRoomFor (seen_start e)) (header : t.kept.keep ≡ e.header.keep) (out : List RowKind) (u : Tables) (noted : List (StateId × ReqId)) (taken : HasTaken (record { event = e; loads = check.loads; hand = made ∷ [] }) t made [] out u noted) where
   abbrev s : Seen
-  s = e.start
+  s = seen_start e
 
   abbrev f : Seen
   f = now_of e []
@@ -92,14 +94,14 @@ module _ (e : InEvent) (proc : ProcId) (report : Report) (made : Made) (del : Is
   n = now_of e out
 
   first : HasBegun (record { event = e; loads = check.loads; hand = made ∷ [] }) t queue blame
-  first = begun e proc report made del tells t queue blame stands aside changes free room header
+  first = begun e proc report made del tells t queue blame stands aside changes free logged room header
 
   its : IsEnding f n made.req
   its =
       subst (λ (x : Seen). IsEnding f x made.req) (sym (now_at e [] taken.ended.kind out taken.ended.out taken.passing.work.goes)) (is_ending f e taken.ended.kind made.req taken.ended.ends)
 
   apart : has_req f.parked made.req ≡ false
-  apart = unparked_now e proc report made del tells t queue blame stands aside changes free room header
+  apart = unparked_now e proc report made del tells t queue blame stands aside changes free logged room header
 
   parked_out : n.parked ≡ f.parked
   parked_out = its.parked ∙ without_same f.parked made.req apart
@@ -108,7 +110,7 @@ module _ (e : InEvent) (proc : ProcId) (report : Report) (made : Made) (del : Is
   joined_out = taken.queue.joined
 
   release : MayRelease e []
-  release = hand_release e proc report made del tells t queue blame stands aside free
+  release = hand_release e proc report made del tells t queue blame stands aside free logged.logged.uncut
 
   queueing : IsQueueing (record { event = e; loads = check.loads; hand = [] }) out u queue
   queueing =
@@ -128,7 +130,7 @@ module _ (e : InEvent) (proc : ProcId) (report : Report) (made : Made) (del : Is
     where
       never : has_traversed e out ≡ true → ⊥
       never ended =
-          let none : has_traversed e out ≡ false = ap (λ (l : List RowKind). has_traversed e l) taken.ended.out ∙ ap (λ (l : List RowKind). list_any is_traverse (map (row_of e) l ++ row_of e taken.ended.kind ∷ [])) aside.uncut ∙ ap (λ (b : Bool). b || false) taken.ended.no_turn in
+          let none : has_traversed e out ≡ false = ap (λ (l : List RowKind). has_traversed e l) taken.ended.out ∙ ap (λ (l : List RowKind). list_any is_traverse (map (row_of e) l ++ row_of e taken.ended.kind ∷ [])) logged.logged.uncut ∙ ap (λ (b : Bool). b || false) taken.ended.no_turn in
           let never_ : true ≡ false = sym ended ∙ none in cc
 
   passing : IsPassing (record { event = e; loads = check.loads; hand = [] }) out u
@@ -151,7 +153,7 @@ module _ (e : InEvent) (proc : ProcId) (report : Report) (made : Made) (del : Is
   moved : MovedAreShown u.running n
   moved =
       subst (λ (r : Option ReqId). MovedAreShown r n) (sym taken.kept.running)
-      (shown_over t.running s n reach_s (λ nav place doc placed wakes. (taken.open_.open_ (whys.Req made.req) taken.cause).unwoken nav place doc refl placed wakes) stands.lasts.moved)
+      (shown_over t.running s n reach_s (λ nav place doc placed wakes. (let w : WasAwake e.start nav doc = (taken.open_.open_ (whys.Req made.req) taken.cause).unwoken nav place doc refl placed wakes in record { place = w.place; placed = w.placed; wakes = w.wakes })) stands.lasts.moved)
 
   -- ---- who is late
 
@@ -169,8 +171,8 @@ module _ (e : InEvent) (proc : ProcId) (report : Report) (made : Made) (del : Is
   no_step =
       record {
         q = asked.q;
-        there = there_now e proc report made del tells t queue blame stands aside changes free room header;
-        unstarted = unstarted e proc report made del tells t queue blame stands aside changes free room header;
+        there = there_now e proc report made del tells t queue blame stands aside changes free logged room header;
+        unstarted = unstarted e proc report made del tells t queue blame stands aside changes free logged room header;
         no_reload = by_what asked.q.what (its_plain e proc report made del tells t queue blame stands aside).what;
         unchanged = (stands.between.tab.movers.ends made.req asked.q asked.there).unchanged asked.open_;
       }
@@ -263,8 +265,8 @@ module _ (e : InEvent) (proc : ProcId) (report : Report) (made : Made) (del : Is
 
   pub taken_up : IsTakenUp e out
   taken_up later =
-      subst (λ (l : List RowKind). IsTakenIn e ((map (row_of e) l ++ map (row_of e) out) ++ later)) (sym aside.uncut) (subst (λ (l : List RowKind). IsTakenIn e (map (row_of e) l ++ later)) (sym taken.ended.out) (subst (λ (r : LogRow). is_delivered_duly (point_at (start_of e) (row_of e taken.ended.kind ∷ later)) r ≡ true) (sym (told_row e proc del.by_coord del.own t queue blame stands aside report del.first)) (rw (del.first) (rw tells (by_up (is_taken_up_at_once s made) refl)))))
+      subst (λ (l : List RowKind). IsTakenIn e ((map (row_of e) l ++ map (row_of e) out) ++ later)) (sym logged.logged.uncut) (subst (λ (l : List RowKind). IsTakenIn e (map (row_of e) l ++ later)) (sym taken.ended.out) (subst (λ (r : LogRow). is_delivered_duly (point_at (start_of e) (row_of e taken.ended.kind ∷ later)) r ≡ true) (sym (told_row e proc del.by_coord del.own t queue blame stands aside report del.first)) (rw (del.real_first) (rw (made_real del.real report del.quiet ∙ tells) (by_up (is_taken_up_at_once e.start made) refl)))))
     where
-      by_up : (b : Bool) → is_taken_up_at_once s made ≡ b → implies b (is_taken_up_in made.req (row_of e taken.ended.kind) || list_any (is_taken_up_in made.req) later) ≡ true
+      by_up : (b : Bool) → is_taken_up_at_once e.start made ≡ b → implies b (is_taken_up_in made.req (row_of e taken.ended.kind) || list_any (is_taken_up_in made.req) later) ≡ true
       by_up false is = refl
-      by_up true is = or_left _ _ (taken.ended.up (same_up ∙ is))
+      by_up true is = or_left _ _ (taken.ended.up (same_up ∙ up_start e del.unheld made ∙ is))

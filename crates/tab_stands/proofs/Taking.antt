@@ -1,5 +1,6 @@
 -- What a document made that changes the history is at hand as its report is delivered: it may be taken up, refused or dropped.
-use Rattle.seen_laws.proofs.InEvents.{uncut_first}
+use Rattle.seen_laws.proofs.InEvents.{now_is, uncut_first}
+use Rattle.load_doors.proofs.Starts.{made_real, requests_start}
 use Rattle.seen_laws.specs.Blocks.{Here}
 use Rattle.log_model.specs.Places.{has_passed}
 use Rattle.seen_facts.specs.Asked.Asking.{IsTabRequest, IsThere}
@@ -46,8 +47,8 @@ use Rattle.tab_stands.proofs.Accepting.{number_low}
 use Rattle.tab_stands.proofs.Dones.{held_first}
 use Rattle.tab_stands.proofs.Hands.{hand_begun}
 use Rattle.tab_stands.proofs.Mades.{IsMadeFor, heard, heard_documents, heard_now, heard_parked, heard_requests, its_asked, its_nav, its_plain}
-use Rattle.tab_stands.specs.Delivering.{IsDelivery, IsToldOf}
-use Rattle.tab_stands.specs.Standing.{HasBegun, HasRoomFor, InCheck, StandsFor, StartsUnasked}
+use Rattle.tab_stands.specs.Delivering.{IsSeenDelivery, IsToldOf}
+use Rattle.tab_stands.specs.Standing.{HasBegun, HasLogged, HasRoomFor, InCheck, IsOwnRead, StandsFor, seen_start}
 use Rattle.log_model.specs.declared.made.What.TheVariants as whats
 use Rattle.log_model.specs.declared.request.Request.TheVariants as requests
 use Rattle.log_model.specs.declared.row_kind.RowKind.TheVariants as rows
@@ -60,18 +61,18 @@ changes_no_go (whats.AddFrame nav) is = tt
 changes_no_go (whats.RemoveFrame nav) is = tt
 changes_no_go whats.Edit is = tt
 
--- once the own row was logged
-here_now : (e : InEvent) → StartsUnasked e → (here_of e []).now ≡ now_of e []
-here_now e aside = aside.plain
+-- once the own row was logged the same is held back in the log itself
+here_parked : (e : InEvent) → (here_of e []).now.parked ≡ (now_of e []).parked
+here_parked e = ap (λ (x : Seen). x.parked) (sym (now_is e []))
 
-module _ (e : InEvent) (proc : ProcId) (report : Report) (made : Made) (del : IsDelivery e proc report) (tells : IsToldOf report made) (t : Tables) (queue : Queue) (blame : List (StateId × ReqId)) {check : InCheck} (stands : StandsFor check e.start t queue blame) (aside : StartsUnasked e) (changes : changes_history made.what ≡ true) (free : is_held_back e.start made ≡ false) (room : HasRoomFor e.start) (header : t.kept.keep ≡ e.header.keep) where
+module _ (e : InEvent) (proc : ProcId) (report : Report) (made : Made) (del : IsSeenDelivery e proc report) (tells : IsToldOf report made) (t : Tables) (queue : Queue) (blame : List (StateId × ReqId)) {check : InCheck} (stands : StandsFor check (seen_start e) t queue blame) (aside : IsOwnRead e) (changes : changes_history made.what ≡ true) (free : is_held_back (seen_start e) made ≡ false) (logged : HasLogged e t.checks) (room : HasRoomFor (seen_start e)) (header : t.kept.keep ≡ e.header.keep) where
   abbrev s : Seen
-  s = e.start
+  s = seen_start e
 
   abbrev n : Seen
   n = heard e proc report made del tells t queue blame stands aside
 
-  abbrev same : n.requests ≡ e.start.requests
+  abbrev same : n.requests ≡ (seen_start e).requests
   same = heard_requests e proc report made del tells t queue blame stands aside
 
   now : now_of e [] ≡ n
@@ -87,7 +88,7 @@ module _ (e : InEvent) (proc : ProcId) (report : Report) (made : Made) (del : Is
   p = record { event = e; loads = check.loads; hand = made ∷ [] }
 
   pub begun : HasBegun p t queue blame
-  begun = hand_begun e proc report made del tells t queue blame stands aside no_go free room header
+  begun = hand_begun e proc report made del tells t queue blame stands aside no_go free logged room header
 
   tab : IsTab t.running check.loads (made ∷ []) n
   tab = hand_tab t.running s e.event proc stands.between.tab stands.between.flows report made del.first tells no_go free
@@ -187,14 +188,16 @@ module _ (e : InEvent) (proc : ProcId) (report : Report) (made : Made) (del : Is
   before =
       let low : made.req.0 ≤ length s.requests = number_low s.requests made.req asked.q asked.there in
       let nr : asked.q.nr.0 ≡ made.req.0 = ap (λ (r : ReqId). r.0) (its_plain e proc report made del tells t queue blame stands aside).nr in
-      let within : asked.q.nr.0 ≤ length s.requests = omega (arith, low, nr) in grind (arith, nat_tests, within)
+      let many : length s.requests ≡ length e.start.requests = requests_start e in
+      let within : asked.q.nr.0 ≤ length e.start.requests = omega (arith, low, nr, many) in
+      grind (arith, nat_tests, within)
 
   taken_now : (change : Change) → IsTakenNow (here_of e []) (row_of e (rows.Applied made.req change)) made
   taken_now change =
-      subst (λ (h : Here). IsTakenNow h (row_of e (rows.Applied made.req change)) made) (sym (uncut_first e aside.uncut)) (λ later.
+      subst (λ (h : Here). IsTakenNow h (row_of e (rows.Applied made.req change)) made) (sym (uncut_first e logged.logged.uncut)) (λ later.
       or_left _ _ (ap (λ (k : RowKind). holds (λ (taken : Made). taken.req.0 == made.req.0) (option_and_then made_of_report (report_taken e.start k))) del.own
-      ∙ ap (λ (o : Option Report). holds (λ (taken : Made). taken.req.0 == made.req.0) (option_and_then made_of_report o)) del.first
-      ∙ ap (λ (o : Option Made). holds (λ (taken : Made). taken.req.0 == made.req.0) o) tells
+      ∙ ap (λ (o : Option Report). holds (λ (taken : Made). taken.req.0 == made.req.0) (option_and_then made_of_report o)) del.real_first
+      ∙ ap (λ (o : Option Made). holds (λ (taken : Made). taken.req.0 == made.req.0) o) (made_real del.real report del.quiet ∙ tells)
       ∙ itself made.req))
 
   for_taking : IsForTaking e [] (made ∷ []) made
@@ -215,9 +218,9 @@ module _ (e : InEvent) (proc : ProcId) (report : Report) (made : Made) (del : Is
         by_coord = del.by_coord;
         takes = ap takes_report del.own;
         before = before;
-        free = ap (λ (b : Bool). implies b (list_any is_traverse (here_of e []).done)) (ap (λ (x : Seen). has_req x.parked made.req) (here_now e aside) ∙ unparked_now);
+        free = ap (λ (b : Bool). implies b (list_any is_traverse (here_of e []).done)) (ap (λ (l : List ReqId). has_req l made.req) (here_parked e) ∙ unparked_now);
         taken = taken_now;
-        held = λ kind_ ends. ends_other e [] kind_ made.req (ends, ends_parked e kind_ made.req ends) (ap (λ (l : List ReqId). has_req l made.req) (sym (held_first e aside.uncut)) ∙ unparked_now) unparked_now;
+        held = λ kind_ ends. ends_other e [] kind_ made.req (ends, ends_parked e kind_ made.req ends) (ap (λ (l : List ReqId). has_req l made.req) (sym (held_first e logged.logged.uncut)) ∙ unparked_now) unparked_now;
       }
 
   pub hand_to_take : IsToTake (record { event = e; loads = check.loads; hand = made ∷ [] }) [] t blame made

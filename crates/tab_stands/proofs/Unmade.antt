@@ -32,8 +32,8 @@ use Rattle.tab_ids.specs.declared.ProcId.{ProcId}
 use Rattle.tab_ids.specs.declared.ReqId.{ReqId}
 use Rattle.tab_ids.specs.declared.StateId.{StateId}
 use Rattle.tab_stands.proofs.Dones.{did, did_outcome}
-use Rattle.tab_stands.specs.Delivering.{IsDelivery}
-use Rattle.tab_stands.specs.Standing.{InCheck, StandsFor, StartsUnasked}
+use Rattle.tab_stands.specs.Delivering.{IsSeenDelivery}
+use Rattle.tab_stands.specs.Standing.{InCheck, IsOwnRead, StandsFor, seen_start}
 use Rattle.tab_settles.proofs.PassedOn.{its_report}
 use Rattle.seen_facts.specs.Transit.Orders.{IsOutcomeOf}
 use Rattle.log_model.specs.declared.job.Task.TheVariants as tasks
@@ -55,12 +55,12 @@ made_of x = record x { is_ready = true; is_fresh = true }
 abbrev pub made_at : DocId → Document → Document
 made_at doc x = cond (x.nr.0 == doc.0) (made_of x) x
 
-module _ (e : InEvent) (proc : ProcId) (job : Job) (outcome : Outcome) (del : IsDelivery e proc (reports.Done job outcome None)) (t : Tables) (queue : Queue) (blame : List (StateId × ReqId)) {check : InCheck} (stands : StandsFor check e.start t queue blame) (aside : StartsUnasked e) (nav : NavId) (state : StateId) (address : List ℕ) (initial : Bool) (task : job.task ≡ tasks.Populate nav state address initial) where
+module _ (e : InEvent) (proc : ProcId) (job : Job) (outcome : Outcome) (del : IsSeenDelivery e proc (reports.Done job outcome None)) (t : Tables) (queue : Queue) (blame : List (StateId × ReqId)) {check : InCheck} (stands : StandsFor check (seen_start e) t queue blame) (aside : IsOwnRead e) (nav : NavId) (state : StateId) (address : List ℕ) (initial : Bool) (task : job.task ≡ tasks.Populate nav state address initial) where
   abbrev report : Report
   report = reports.Done job outcome None
 
   abbrev s : Seen
-  s = e.start
+  s = seen_start e
 
   abbrev n : Seen
   n = did e proc job outcome del t queue blame stands aside
@@ -71,7 +71,7 @@ module _ (e : InEvent) (proc : ProcId) (job : Job) (outcome : Outcome) (del : Is
   abbrev pub d : Document
   d = its_order.lives.d
 
-  pub its_found : document_of e.start job.doc ≡ Some d
+  pub its_found : document_of (seen_start e) job.doc ≡ Some d
   its_found = its_order.lives.found
 
   its_live : IsLive d
@@ -121,20 +121,20 @@ module _ (e : InEvent) (proc : ProcId) (job : Job) (outcome : Outcome) (del : Is
   unknown = its_live.unknown
 
   -- each document is found by its number
-  pub the_one : (x : Document) → Has e.start.documents x → (x.nr.0 == job.doc.0) ≡ true → x ≡ d
+  pub the_one : (x : Document) → Has (seen_start e).documents x → (x.nr.0 == job.doc.0) ≡ true → x ≡ d
   the_one x there same =
       let number : x.nr.0 ≡ job.doc.0 = eqb-true x.nr.0 job.doc.0 same in
       some_same (sym (found_itself s.documents x stands.between.tab.whose.numbered there) ∙ (ap (λ (i : ℕ). find (λ (y : Document). y.nr.0 == i) s.documents) number ∙ its_found))
 
   -- ---- what the tables have of it
 
-  pub its_own : (x : Sight) → Has (map sight e.start.documents) x → (x.nr.0 == job.doc.0) ≡ true → x.state ≡ state
+  pub its_own : (x : Sight) → Has (map sight (seen_start e).documents) x → (x.nr.0 == job.doc.0) ≡ true → x.state ≡ state
   its_own x there own =
       let of_ = has_map sight s.documents x there in
       let one : of_.it ≡ d = the_one of_.it of_.there (ap (λ (y : Sight). y.nr.0 == job.doc.0) of_.is ∙ own) in
       ap (λ (y : Sight). y.state) (sym of_.is) ∙ ap (λ (y : Document). y.state) one ∙ its_state
 
-  pub seen_found : sight_in (map sight e.start.documents) job.doc ≡ Some (sight d)
+  pub seen_found : sight_in (map sight (seen_start e).documents) job.doc ≡ Some (sight d)
   seen_found = sight_of s job.doc d its_found
 
   seen_has : Has (map sight s.documents) (sight d)
@@ -155,7 +155,7 @@ module _ (e : InEvent) (proc : ProcId) (job : Job) (outcome : Outcome) (del : Is
           at ∙ ap (λ (i : ℕ). let o : Option DocId = Some (record { 0 = i }) in o) number
 
   -- a document of its state that isn't discarded is this one
-  pub sole_one : (x : Document) (doc : DocId) → document_of e.start doc ≡ Some x → x.state ≡ state → x.is_discarded ≡ false → x ≡ d
+  pub sole_one : (x : Document) (doc : DocId) → document_of (seen_start e) doc ≡ Some x → x.state ≡ state → x.is_discarded ≡ false → x ≡ d
   sole_one x doc at of_state there =
       let nr : x.nr ≡ d.nr = stands.between.tab.docs.sole doc job.doc x d at its_found (of_state ∙ sym its_state) there undiscarded in
       let number : x.nr.0 ≡ doc.0 = find_has (λ (y : Document). y.nr.0) doc.0 s.documents x at in
@@ -194,10 +194,10 @@ module _ (e : InEvent) (proc : ProcId) (job : Job) (outcome : Outcome) (del : Is
       by_outcome (outcomes.Populated slot) its = (slot, refl)
       by_outcome _ its = elim its [ ]
 
-  pub documents_now : n.documents ≡ on_document job.doc made_of e.start.documents
+  pub documents_now : n.documents ≡ on_document job.doc made_of (seen_start e).documents
   documents_now =
       ap (λ (o : Option Report). documents_delivered s.documents o) del.first
       ∙ ap (λ (u : Outcome). documents_delivered s.documents (Some (reports.Done job u None))) its_outcome.1
 
-  pub places_now : n.places ≡ e.start.places
+  pub places_now : n.places ≡ (seen_start e).places
   places_now = ap (λ (o : Option Report). places_delivered s o) del.first ∙ (rw task refl)

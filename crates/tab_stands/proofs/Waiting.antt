@@ -1,4 +1,5 @@
 -- What waits, and what is held back, as a request is accepted: both as before, and nothing more is due.
+use Rattle.tab_stands.proofs.Applied.{none_applied}
 use Rattle.seen_facts.specs.Asked.Asking.{IsThere}
 use Rattle.tab_facts.specs.FrameTab.Asking.{NoneHeld}
 use Rattle.seen_facts.specs.Hang.Members.{Has}
@@ -24,7 +25,7 @@ use Rattle.tab_ids.specs.declared.StateId.{StateId}
 use Rattle.tab_settles.proofs.PassedOn.{passed_is, running_is}
 use Rattle.tab_settles.specs.Settling.{IsQueueing, IsTurning, NoneRunsWhileHeld}
 use Rattle.tab_stands.proofs.Accepting.{new, now, old_or_new, parked_now, stays, went}
-use Rattle.tab_stands.specs.Standing.{InCheck, StandsFor, StartsUnasked}
+use Rattle.tab_stands.specs.Standing.{InCheck, IsOwnRead, StandsFor, seen_start}
 use Rattle.log_model.specs.declared.row_kind.Actor.TheVariants as actors
 use Rattle.log_model.specs.declared.row_kind.RowKind.TheVariants as rows
 
@@ -81,9 +82,9 @@ module _ (old asked : List Asked) (stay : (req : ReqId) (q : Asked) → request_
 
 -- ---- the row
 
-module _ (e : InEvent) (req : ReqId) (doc : Option DocId) (what : Request) (by_user : e.actor ≡ actors.Ui) (own : e.own ≡ rows.Accepted req doc what) (nr : req.0 ≡ length e.start.requests + 1) (aside : StartsUnasked e) (t : Tables) (queue : Queue) (blame : List (StateId × ReqId)) {check : InCheck} (stands : StandsFor check e.start t queue blame) where
+module _ (e : InEvent) (req : ReqId) (doc : Option DocId) (what : Request) (by_user : e.actor ≡ actors.Ui) (own : e.own ≡ rows.Accepted req doc what) (nr : req.0 ≡ length (seen_start e).requests + 1) (aside : IsOwnRead e) (t : Tables) (queue : Queue) (blame : List (StateId × ReqId)) {check : InCheck} (stands : StandsFor check (seen_start e) t queue blame) where
   abbrev s : Seen
-  s = e.start
+  s = seen_start e
 
   abbrev n : Seen
   n = went e req doc what by_user own nr aside
@@ -128,13 +129,13 @@ module _ (e : InEvent) (req : ReqId) (doc : Option DocId) (what : Request) (by_u
           cc
 
   -- all that is asked of what waits
-  pub queueing_now : (ids : List ReqId) (left : Queue) → aim_of (now_of e []) ≡ aim_of s → IsTurning e [] → HasQueue (now_of e []) t.running left.waiting → left.parked ≡ queue.parked → IsQueueing (record { event = e; loads = ids; hand = [] }) [] t left
-  queueing_now ids left aim turning queued parked =
+  pub queueing_now : e.before ≡ [] → (ids : List ReqId) (left : Queue) → aim_of (now_of e []) ≡ aim_of s → IsTurning e [] → HasQueue (now_of e []) t.running left.waiting → left.parked ≡ queue.parked → IsQueueing (record { event = e; loads = ids; hand = [] }) [] t left
+  queueing_now uncut ids left aim turning queued parked =
       record {
         turning = turning;
         queued = queued;
         parked = parked ∙ parked_now e req doc what by_user own nr aside t queue blame stands;
         held = held_now;
-        over = λ never. absurd cc;
+        over = λ has. absurd (none_applied e uncut has);
         releasing = λ some all. absurd (stands_not aim some all);
       }

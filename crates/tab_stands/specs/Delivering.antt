@@ -10,7 +10,10 @@ use Rattle.log_model.specs.declared.made.Report.{Report}
 use Rattle.move_queue.specs.declared.queue_step.QueueStep.{QueueStep}
 use Rattle.move_queue.specs.declared.queue_step.QueueStep.TheVariants.{Ready}
 use Rattle.nav_tree.specs.Tree.{is_state}
+use Rattle.load_doors.specs.Logged.{seen_start}
 use Rattle.seen_laws.specs.InEvent.{InEvent}
+use Rattle.seen_laws.specs.Unasked.{no_answer}
+use Rattle.unasked.specs.Premises.{IsUnheld}
 use Rattle.std.specs.Map.{lookup}
 use Rattle.std.specs.Option.{option_map_or}
 use Rattle.std.specs.Prelude.{List, Some, [], false, find, slice_get, ◌==◌, ◌∷◌, ◌≡◌}
@@ -28,6 +31,16 @@ pub record IsDelivery (e : InEvent) (proc : ProcId) (report : Report) : Type 0 w
   pub by_coord : e.actor ≡ actors.Coord
   pub own : e.own ≡ rows.Delivered proc
   pub first : slice_get (desk_of e.start proc).reports 0 ≡ Some report
+
+-- so it is where this is the report as it would be had nobody been asked, and a traversal in its check has shown nobody a document
+pub record IsSeenDelivery (e : InEvent) (proc : ProcId) (report : Report) : Type 0 where
+  pub by_coord : e.actor ≡ actors.Coord
+  pub own : e.own ≡ rows.Delivered proc
+  pub first : slice_get (desk_of (seen_start e) proc).reports 0 ≡ Some report
+  pub real : Report
+  pub real_first : slice_get (desk_of e.start proc).reports 0 ≡ Some real
+  pub quiet : no_answer real ≡ Some report
+  pub unheld : IsUnheld e.checking e.start
 
 -- the order shows its document
 abbrev pub IsShowTask : Task → Type 0

@@ -39,6 +39,11 @@ pub record IsTopShown (places : List Place) : Type 0 where
   pub placed : place_in places top ≡ Some place
   pub shown : place.was_activated ≡ true
 
+-- both
+pub record AreShownOnce (places : List Place) : Type 0 where
+  pub unshown : AreNewUnshown places
+  pub top_ : IsTopShown places
+
 -- all of it
 pub record AreShownUnder (s : Seen) : Type 0 where
   pub orders : AreOrders (λ (job : Job). IsUnderEpoch s.documents s.places job job.task) s

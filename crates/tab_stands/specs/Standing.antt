@@ -1,6 +1,11 @@
 -- What a coordinator of a tab with loads keeps between two events, and how an event of it begins and ends.
--- HTML Standard, "session history traversal queue" and "apply the history step"; that nobody dies and nobody is asked in such a tab is this project's own premise.
+-- HTML Standard, "session history traversal queue", "apply the history step" and "checking if unloading is canceled"; that nobody dies in such a tab is this project's own premise.
+use Rattle.checking_facts.specs.Checks.{AreInCheck}
 use Rattle.leave_facts.proofs.Carried.{AreLeftDuly}
+use Rattle.load_doors.specs.Logged.{IsLogged}
+pub use Rattle.load_doors.specs.Logged.{IsOwnRead, seen_start}
+use Rattle.tab_doors.specs.Working.{AreLawfulFor, StartsPlain}
+use Rattle.unload_check.specs.Checks.{OpenCheck}
 use Rattle.tab_facts.specs.Last.Lasting.{AreLasting}
 use Rattle.row_facts.specs.Left.Left.{WereShown}
 use Rattle.load_doors.specs.Tied.{AreTied}
@@ -12,8 +17,8 @@ use Rattle.log_model.specs.declared.row_kind.RowKind.{RowKind}
 use Rattle.move_queue.specs.Queue.{Queue}
 use Rattle.row_facts.specs.Owed.Owed.{IsLoose}
 use Rattle.seen_laws.specs.Blocks.{EachPass}
-use Rattle.seen_laws.specs.InEvent.{InEvent, IsTakenIn, later_of, log_of, now_of, rows_of, start_of, here_of, seen_here}
-use Rattle.std.specs.Prelude.{Bool, List, None, Option, [], length, ℕ, ◌++◌, ◌+◌, ◌<◌, ◌≡◌, false, true}
+use Rattle.seen_laws.specs.InEvent.{InEvent, IsTakenIn, here_of, later_of, log_of, now_of, rows_of, seen_here, start_of}
+use Rattle.std.specs.Prelude.{Bool, List, None, Option, [], false, length, true, ℕ, ◌++◌, ◌+◌, ◌<◌, ◌≡◌}
 use Rattle.tab_settles.specs.PassedOn.{AreCounted, AreHeldUp, AreLeftStrays, AreSteps, HasQueue, InPass, IsPassing, IsTaking, LoadsMadeOwn, ParentsShown, TakersServe}
 use Rattle.tab_doors.specs.declared.tables.Tables.{Tables}
 use Rattle.tab_facts.specs.TabEvents.Between.{IsBetweenChecks}
@@ -49,10 +54,13 @@ pub record Lasts (run : Option ReqId) (s : Seen) : Type 0 where
   -- orders on their way that make documents are for what orders may be for; nobody is asked, and documents are sent to fragments for loads of their own navigables
   pub makes : MakesServe s
   pub sound : OrdersAreSound s
-  -- which navigables were shown a document, as their epochs tell; and why one that is shown may not stand
-  pub shows : AreShownUnder s
+  -- why a navigable that is shown may not stand
   pub off : AreOffKnown run s
-  -- whom requests leave was asked
+
+-- what lasts of the log itself: it is known who is in a check; which navigables were shown a document, as their epochs tell; and whom requests leave was asked
+pub record LastsInLog (checking : ReqId → Bool) (s : Seen) : Type 0 where
+  pub checks : AreInCheck checking s
+  pub shows : AreShownUnder s
   pub duly : AreLeftDuly s
 
 -- what is in its unload check between two events: these loads, which are at hand, and one traversal, which holds the queue, or none
@@ -64,7 +72,7 @@ pub record InCheck : Type 0 where
 abbrev pub none_in_check : InCheck
 none_in_check = record { loads = []; holds = false }
 
--- the coordinator's tables, its queue and the requests that are noted for stray documents stand for what the log has come to, with this in its check
+-- the coordinator's tables, its queue and the requests that are noted for stray documents stand for what the log would have come to had nobody been asked, with this in its check
 pub record StandsFor (check : InCheck) (s : Seen) (t : Tables) (moves : Queue) (blame : List (StateId × ReqId)) : Type 0 where
   pub between : IsBetweenChecks t.kept.keep t.running check.loads check.holds s
   -- while a traversal in its check holds the queue, none runs
@@ -92,7 +100,14 @@ pub record StartsUnasked (e : InEvent) : Type 0 where
   pub undue : (end : Seen) → e.due end ≡ true
   pub unchecked : (req : ReqId) → e.checking req ≡ false
   pub begins : seen_here e [] ≡ here_of e []
-  pub plain : log_of e [] ≡ now_of e []
+  pub plain : StartsPlain e
+
+-- the event's own row was logged: what is known then of the log itself, and what lasts of it; the row passes, if what comes later has what it asks; and nobody had been asked so far
+pub record HasLogged (e : InEvent) (checks : List (ReqId × OpenCheck)) : Type 0 where
+  pub logged : IsLogged e checks
+  pub lasts : LastsInLog e.checking (log_of e [])
+  pub lawful : AreLawfulFor None e checks []
+  pub plain : StartsPlain e
 
 -- there is room for the requests that an event may accept
 abbrev pub HasRoomFor : Seen → Type 0
@@ -119,7 +134,14 @@ pub record HasBegun (p : InPass) (t : Tables) (queue : Queue) (blame : List (Sta
 abbrev pub IsTakenUp : InEvent → List RowKind → Type 0
 IsTakenUp e out = (later : List LogRow) → IsTakenIn e (later_of e out ++ later)
 
--- the event ends with these rows, each of which passes, and the coordinator stands for what the log has come to, with this in its check
-pub record HasActed (check : InCheck) (e : InEvent) (out : List RowKind) (t : Tables) (queue : Queue) (blame : List (StateId × ReqId)) : Type 0 where
+-- an event in which nobody was asked ends with these rows, each of which passes, and in which the coordinator does nothing: it stands for what the log has come to
+pub record HasIdled (check : InCheck) (e : InEvent) (out : List RowKind) (t : Tables) (queue : Queue) (blame : List (StateId × ReqId)) : Type 0 where
   pub stands : StandsFor check (log_of e out) t queue blame
+  pub lasts : LastsInLog e.checking (log_of e out)
+  pub passes : EachPass (start_of e) (rows_of e out) []
+
+-- the event ends with these rows, each of which passes; the coordinator stands for what the log would have come to had nobody been asked, with this in its check; and what lasts of the log itself lasts
+pub record HasActed (check : InCheck) (e : InEvent) (out : List RowKind) (t : Tables) (queue : Queue) (blame : List (StateId × ReqId)) : Type 0 where
+  pub stands : StandsFor check (now_of e out) t queue blame
+  pub lasts : LastsInLog e.checking (log_of e out)
   pub passes : EachPass (start_of e) (rows_of e out) []

@@ -16,7 +16,7 @@ use Rattle.tab_ids.specs.declared.StateId.{StateId}
 use Rattle.tab_stands.proofs.Awaited.{awaited_own}
 use Rattle.tab_stands.proofs.Unmade.{d, its_found}
 use Rattle.tab_stands.specs.PassedOn.{IsPassing, IsReady, IsStray, MayCause}
-use Rattle.tab_stands.specs.Standing.{HasRoomFor, InCheck, StandsFor}
+use Rattle.tab_stands.specs.Standing.{HasLogged, HasRoomFor, InCheck, StandsFor, seen_start}
 use Rattle.tab_sweeps.specs.Unneeded.{IsUnneeded}
 use Rattle.tab_unneeded.proofs.Needs.{made_unneeded}
 use Rattle.tab_unneeded.proofs.Notes.{noted_passing}
@@ -26,12 +26,12 @@ use Rattle.log_model.specs.declared.job.Task.TheVariants as tasks
 use Rattle.log_model.specs.declared.job.Why.TheVariants as whys
 use Rattle.log_model.specs.declared.row_kind.RowKind.TheVariants as rows
 
-module _ (m : InMade) (doc : DocId) (state : StateId) (why : Why) (its : IsMadeUnneeded m doc state why) (t : Tables) {check : InCheck} (stands : StandsFor check m.event.start t m.queue m.noted) (room : HasRoomFor m.event.start) (header : t.kept.keep ≡ m.event.header.keep) where
+module _ (m : InMade) (doc : DocId) (state : StateId) (why : Why) (its : IsMadeUnneeded m doc state why) (t : Tables) {check : InCheck} (stands : StandsFor check (seen_start m.event) t m.queue m.noted) (room : HasRoomFor (seen_start m.event)) (header : t.kept.keep ≡ m.event.header.keep) (logged : HasLogged m.event t.checks) where
   -- the tables have its process
   pub proc_as : IsSome (proc_in t.whose.entries doc)
   proc_as =
       subst (λ (x : DocId). IsSome (proc_in t.whose.entries x)) its.doc_is
-      (proc_known m.event.start t.whose.entries stands.tied.holds.whose m.job.doc (d m.event m.proc m.job m.outcome its.tells t m.queue m.noted stands its.aside its.nav state its.address its.initial its.task) (its_found m.event m.proc m.job m.outcome its.tells t m.queue m.noted stands its.aside its.nav state its.address its.initial its.task))
+      (proc_known (seen_start m.event) t.whose.entries stands.tied.holds.whose m.job.doc (d m.event m.proc m.job m.outcome its.tells t m.queue m.noted stands its.aside its.nav state its.address its.initial its.task) (its_found m.event m.proc m.job m.outcome its.tells t m.queue m.noted stands its.aside its.nav state its.address its.initial its.task))
 
   -- the load that waits for it, if one does, is of its navigable
   pub waits_as : HasOneEach t.loads → WaitsAtItsNav t doc
@@ -45,7 +45,7 @@ module _ (m : InMade) (doc : DocId) (state : StateId) (why : Why) (its : IsMadeU
   module _ (one_each : HasOneEach t.loads) (u : Tables) (one : PlacesOne state doc t u) (kept : KeepsRun t u) where
     passing : IsPassing (record { event = m.event; loads = check.loads; hand = [] }) [] u
     passing =
-        noted_passing m.event m.proc m.job m.outcome its.tells t m.queue m.noted stands its.aside its.nav state its.address its.initial its.task one_each u (subst (λ (x : DocId). PlacesOne state x t u) (sym its.doc_is) one) kept room
+        noted_passing m.event m.proc m.job m.outcome its.tells t m.queue m.noted stands its.aside its.nav state its.address its.initial its.task one_each u (subst (λ (x : DocId). PlacesOne state x t u) (sym its.doc_is) one) kept logged room
 
     pub may_as : (old : List RowKind) → MayCause (now_of m.event old) why
     may_as old req is = absurd (its.unasked req is)
@@ -74,8 +74,8 @@ module _ (m : InMade) (doc : DocId) (state : StateId) (why : Why) (its : IsMadeU
 
           pub ready_as : IsReady (record { event = m.event; loads = check.loads; hand = [] }) out v m.queue m.noted whys.Start
           ready_as =
-              discarded_ready m.event m.proc m.job m.outcome its.tells t m.queue m.noted stands its.aside its.nav state its.address its.initial its.task why its.unasked own_stray u kept passing out v own_out keeps then_ header
+              discarded_ready m.event m.proc m.job m.outcome its.tells t m.queue m.noted stands its.aside its.nav state its.address its.initial its.task why its.unasked own_stray u kept passing out v own_out keeps then_ header logged.logged.uncut logged.plain
 
           pub kept_as : KeepsRun t v
           kept_as =
-              kept_run m.event m.proc m.job m.outcome its.tells t m.queue m.noted stands its.aside its.nav state its.address its.initial its.task why its.unasked own_stray u kept passing out v own_out keeps then_ header
+              kept_run m.event m.proc m.job m.outcome its.tells t m.queue m.noted stands its.aside its.nav state its.address its.initial its.task why its.unasked own_stray u kept passing out v own_out keeps then_ header logged.logged.uncut logged.plain

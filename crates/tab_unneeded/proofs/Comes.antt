@@ -45,9 +45,9 @@ use Rattle.tab_stands.proofs.PassedOn.{IsBegun, causes_on, serve_on, unstood_by}
 use Rattle.tab_stands.proofs.Placed.{WasDoc, made_asks, made_then, one_or_same, states_kept, was_doc}
 use Rattle.tab_stands.proofs.Reports.{told_kept}
 use Rattle.tab_stands.proofs.Unmade.{d, its_found, its_state, made_at, places_now}
-use Rattle.tab_stands.specs.Delivering.{IsDelivery}
+use Rattle.tab_stands.specs.Delivering.{IsSeenDelivery}
 use Rattle.tab_stands.specs.PassedOn.{IsLeftStray, IsStray, LoadsMadeOwn, MayCause}
-use Rattle.tab_stands.specs.Standing.{InCheck, StandsFor, StartsUnasked}
+use Rattle.tab_stands.specs.Standing.{InCheck, IsOwnRead, StandsFor, seen_start}
 use Rattle.tab_sweeps.proofs.Loads.{loaded_never}
 use Rattle.tab_unneeded.proofs.Needs.{made_nobody, made_unkept}
 use Rattle.row_facts.proofs.WalkRows.Leaves.{none_places}
@@ -73,9 +73,9 @@ without_none doc (x ∷ docs) none = by_test (x.0 == doc.0) refl none (without_n
     by_test true e h more = absurd cc
     by_test false e h more = rw e (ap (λ (l : List DocId). x ∷ l) (more h))
 
-module _ (e : InEvent) (proc : ProcId) (job : Job) (outcome : Outcome) (del : IsDelivery e proc (reports.Done job outcome None)) (t : Tables) (queue : Queue) (blame : List (StateId × ReqId)) {check : InCheck} (stands : StandsFor check e.start t queue blame) (aside : StartsUnasked e) (nav : NavId) (state : StateId) (address : List ℕ) (initial : Bool) (task : job.task ≡ tasks.Populate nav state address initial) (why : Why) (unasked : (req : ReqId) → why ≡ whys.Req req → ⊥) (stray : IsStray (now_of e []) job.doc state) where
+module _ (e : InEvent) (proc : ProcId) (job : Job) (outcome : Outcome) (del : IsSeenDelivery e proc (reports.Done job outcome None)) (t : Tables) (queue : Queue) (blame : List (StateId × ReqId)) {check : InCheck} (stands : StandsFor check (seen_start e) t queue blame) (aside : IsOwnRead e) (nav : NavId) (state : StateId) (address : List ℕ) (initial : Bool) (task : job.task ≡ tasks.Populate nav state address initial) (why : Why) (unasked : (req : ReqId) → why ≡ whys.Req req → ⊥) (stray : IsStray (now_of e []) job.doc state) where
   abbrev s : Seen
-  s = e.start
+  s = seen_start e
 
   abbrev n : Seen
   n = now_of e []
@@ -100,13 +100,13 @@ module _ (e : InEvent) (proc : ProcId) (job : Job) (outcome : Outcome) (del : Is
 
   -- ---- requests and navigables
 
-  pub requests_same : then_.requests ≡ e.start.requests
+  pub requests_same : then_.requests ≡ (seen_start e).requests
   requests_same =
       unserved why unasked (request_served n discard tasks.Discard) n.requests
       ∙ ap (λ (x : Seen). x.requests) now
       ∙ did_requests e proc job outcome del t queue blame stands aside (made_asks e proc job outcome del t queue blame stands aside nav state address initial task)
 
-  pub places_same : then_.places ≡ e.start.places
+  pub places_same : then_.places ≡ (seen_start e).places
   places_same =
       none_places n e.event e.actor discard (made_nobody e proc job outcome del t queue blame stands aside nav state address initial task) tasks.Discard refl tt
       ∙ ap (λ (x : Seen). x.places) now
@@ -118,7 +118,7 @@ module _ (e : InEvent) (proc : ProcId) (job : Job) (outcome : Outcome) (del : Is
       ∙ ap (λ (x : Seen). x.kept) now
       ∙ told_kept e proc del.by_coord del.own t queue blame stands aside (reports.Done job outcome None) del.first
 
-  pub history_same : then_.history ≡ e.start.history
+  pub history_same : then_.history ≡ (seen_start e).history
   history_same = ap (λ (x : Seen). x.history) now
 
   -- ---- documents
@@ -307,12 +307,12 @@ module _ (e : InEvent) (proc : ProcId) (job : Job) (outcome : Outcome) (del : Is
     pub then_is : then_ ≡ now_of e out
     then_is = sym (ap (λ (l : List RowKind). now_of e l) is ∙ sent_now e [] discard refl)
 
-    pub discarded_comes : ArePlain t.running (now_of e out) → IsComing blame e.start (now_of e out)
+    pub discarded_comes : ArePlain t.running (now_of e out) → IsComing blame (seen_start e) (now_of e out)
     discarded_comes plain =
         subst (λ (x : Seen). IsComing blame s x) then_is (coming (subst (λ (x : Seen). ArePlain t.running x) (sym then_is) plain))
 
     -- no document was made usable
-    pub discarded_usable : AreApart (λ (x : Document). x.nr.0) (now_of e out).documents → (own_state : StateId) → HasUsable (now_of e out) own_state → HasUsable e.start own_state
+    pub discarded_usable : AreApart (λ (x : Document). x.nr.0) (now_of e out).documents → (own_state : StateId) → HasUsable (now_of e out) own_state → HasUsable (seen_start e) own_state
     discarded_usable apart own_state some = by_passing (any_has (λ (x : Document). is_usable x own_state) then_.documents (subst (λ (x : Seen). HasUsable x own_state) (sym then_is) some))
       where
         three : (a b c f : Bool) → (a && b && not c && not f) ≡ true → c ≡ false

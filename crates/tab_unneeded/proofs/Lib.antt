@@ -1,3 +1,4 @@
+pub mod Tells
 pub mod Strays
 pub mod Notes
 pub mod Needs

@@ -1,4 +1,5 @@
 -- A document that was just made was never shown: no navigable was shown it last, it isn't kept, and nobody is awake on it.
+use Rattle.tab_unneeded.proofs.Tells.{made_tells}
 use Rattle.std.specs.Prelude.{find}
 use Rattle.seen_facts.proofs.Hang.Hung.{places_distinct}
 use Rattle.seen_facts.proofs.Hang.Members.{find_has}
@@ -27,18 +28,18 @@ use Rattle.tab_passes.proofs.Unders.{IsListedAs, has_docs}
 use Rattle.tab_stands.proofs.Dones.{did_now, did_tab}
 use Rattle.tab_stands.proofs.Reports.{told_kept}
 use Rattle.tab_stands.proofs.Unmade.{d, its_found, its_outcome, not_ready, places_now}
-use Rattle.tab_stands.specs.Delivering.{IsDelivery}
+use Rattle.tab_stands.specs.Delivering.{IsSeenDelivery}
 use Rattle.tab_stands.specs.PassedOn.{IsStray, IsTab}
-use Rattle.tab_stands.specs.Standing.{InCheck, StandsFor, StartsUnasked}
+use Rattle.tab_stands.specs.Standing.{InCheck, IsOwnRead, StandsFor, seen_start}
 use Rattle.tab_sweeps.specs.Unneeded.{IsUnneeded}
 use Rattle.row_facts.proofs.WalkRows.Sleeping.{no_shower, nobody_awake}
 use Rattle.log_model.specs.declared.job.Task.TheVariants as tasks
 use Rattle.log_model.specs.declared.made.Report.TheVariants as reports
 use Rattle.log_model.specs.declared.outcome.Outcome.TheVariants as outcomes
 
-module _ (e : InEvent) (proc : ProcId) (job : Job) (outcome : Outcome) (del : IsDelivery e proc (reports.Done job outcome None)) (t : Tables) (queue : Queue) (blame : List (StateId × ReqId)) {check : InCheck} (stands : StandsFor check e.start t queue blame) (aside : StartsUnasked e) (nav : NavId) (state : StateId) (address : List ℕ) (initial : Bool) (task : job.task ≡ tasks.Populate nav state address initial) where
+module _ (e : InEvent) (proc : ProcId) (job : Job) (outcome : Outcome) (del : IsSeenDelivery e proc (reports.Done job outcome None)) (t : Tables) (queue : Queue) (blame : List (StateId × ReqId)) {check : InCheck} (stands : StandsFor check (seen_start e) t queue blame) (aside : IsOwnRead e) (nav : NavId) (state : StateId) (address : List ℕ) (initial : Bool) (task : job.task ≡ tasks.Populate nav state address initial) where
   abbrev s : Seen
-  s = e.start
+  s = seen_start e
 
   abbrev n : Seen
   n = now_of e []
@@ -136,9 +137,9 @@ module _ (e : InEvent) (proc : ProcId) (job : Job) (outcome : Outcome) (del : Is
           proc = proc;
           takes = del.own;
           populate = job;
-          slot = slot.0;
+          slot = own.0;
           made = None;
-          tells = del.first ∙ ap (λ (o : Outcome). let r : Option Report = Some (reports.Done job o None) in r) slot.1;
+          tells = del.real_first ∙ ap (λ (r : Report). let o : Option Report = Some r in o) own.1;
           of = refl;
         };
         stray = stray;
@@ -149,3 +150,6 @@ module _ (e : InEvent) (proc : ProcId) (job : Job) (outcome : Outcome) (del : Is
     where
       slot : (slot : Option ℕ) × (outcome ≡ outcomes.Populated slot)
       slot = its_outcome e proc job outcome del t queue blame stands aside nav state address initial task
+
+      own : (own : Option ℕ) × (del.real ≡ reports.Done job (outcomes.Populated own) None)
+      own = made_tells del.real job outcome slot.0 slot.1 del.quiet

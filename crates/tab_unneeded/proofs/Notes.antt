@@ -1,10 +1,5 @@
 -- A document that was made is noted in the tables: the coordinator is at work, and passes may follow, whatever the document is needed for.
-use Rattle.seen_laws.proofs.InEvents.{uncut_log}
-use Rattle.log_model.specs.declared.row_kind.RowKind.TheVariants as rows
-use Rattle.log_model.specs.After.{after}
-use Rattle.tab_passes.proofs.PassedOn.{AreLeftDuly, row_duly}
-use Rattle.seen_facts.specs.Asked.Asking.{ArePlain}
-use Rattle.checking_facts.specs.Checks.{AreInCheck}
+use Rattle.unload_check.specs.Checks.{OpenCheck}
 use Rattle.seen_facts.specs.Kept.Keeping.{state_in}
 use Rattle.load_doors.specs.Tied.{AreTied}
 use Rattle.load_table.specs.Loads.{HasOneEach, is_populating, ongoing_load}
@@ -20,7 +15,7 @@ use Rattle.log_model.specs.declared.row_kind.RowKind.{RowKind}
 use Rattle.move_queue.specs.Queue.{Queue}
 use Rattle.row_facts.proofs.Owed.Ends.{loose_first, loose_owed}
 use Rattle.page_cache.specs.Kept.{Kept}
-use Rattle.seen_laws.specs.InEvent.{InEvent, log_of, now_of, row_of}
+use Rattle.seen_laws.specs.InEvent.{InEvent, now_of}
 use Rattle.seen_laws.specs.Sending.{leads}
 use Rattle.std.proofs.Common.{Bool, List, None, Option, Some, [], ap, length, map, refl, subst, sym, true, ℕ, ◌+◌, ◌∙◌, ◌≡◌, ◌≤◌}
 use Rattle.std.proofs.lemmas.List.{length-map}
@@ -39,24 +34,24 @@ use Rattle.tab_ids.specs.declared.NavId.{NavId}
 use Rattle.tab_ids.specs.declared.ProcId.{ProcId}
 use Rattle.tab_ids.specs.declared.ReqId.{ReqId}
 use Rattle.tab_ids.specs.declared.StateId.{StateId}
-use Rattle.tab_stands.proofs.Begun.{checks_first, work_first}
+use Rattle.tab_stands.proofs.Begun.{work_first}
 use Rattle.tab_stands.proofs.Dones.{did, did_now, did_parked, did_requests, did_tab}
 use Rattle.tab_stands.proofs.Placed.{documents_are, made_asks, states_alike, states_kept}
-use Rattle.tab_stands.proofs.Reports.{told_going, told_held, told_kept, told_legal, told_moved, told_rests, told_tied}
+use Rattle.tab_stands.proofs.Reports.{told_going, told_held, told_kept, told_moved, told_rests, told_tied}
 use Rattle.tab_stands.proofs.Unmade.{being, d, documents_now, its_own, its_outcome, made_at, made_of, places_now, seen_found, undiscarded, unknown, unplaced}
-use Rattle.tab_stands.specs.Delivering.{IsDelivery}
+use Rattle.tab_stands.specs.Delivering.{IsSeenDelivery}
 use Rattle.tab_stands.specs.PassedOn.{IsGoing, IsPassing}
-use Rattle.tab_stands.specs.Standing.{HasRoomFor, InCheck, StandsFor, StartsUnasked}
+use Rattle.tab_stands.specs.Standing.{HasLogged, HasRoomFor, InCheck, IsOwnRead, StandsFor, seen_start}
 use Rattle.log_model.specs.declared.job.Task.TheVariants as tasks
 use Rattle.log_model.specs.declared.made.Report.TheVariants as reports
 use Rattle.log_model.specs.declared.row_kind.Actor.TheVariants as actors
 
-module _ (e : InEvent) (proc : ProcId) (job : Job) (outcome : Outcome) (del : IsDelivery e proc (reports.Done job outcome None)) (t : Tables) (queue : Queue) (blame : List (StateId × ReqId)) {check : InCheck} (stands : StandsFor check e.start t queue blame) (aside : StartsUnasked e) (nav : NavId) (state : StateId) (address : List ℕ) (initial : Bool) (task : job.task ≡ tasks.Populate nav state address initial) (one_each : HasOneEach t.loads) where
+module _ (e : InEvent) (proc : ProcId) (job : Job) (outcome : Outcome) (del : IsSeenDelivery e proc (reports.Done job outcome None)) (t : Tables) (queue : Queue) (blame : List (StateId × ReqId)) {check : InCheck} (stands : StandsFor check (seen_start e) t queue blame) (aside : IsOwnRead e) (nav : NavId) (state : StateId) (address : List ℕ) (initial : Bool) (task : job.task ≡ tasks.Populate nav state address initial) (one_each : HasOneEach t.loads) where
   abbrev report : Report
   report = reports.Done job outcome None
 
   abbrev s : Seen
-  s = e.start
+  s = seen_start e
 
   abbrev n : Seen
   n = did e proc job outcome del t queue blame stands aside
@@ -64,7 +59,7 @@ module _ (e : InEvent) (proc : ProcId) (job : Job) (outcome : Outcome) (del : Is
   abbrev own : Document
   own = d e proc job outcome del t queue blame stands aside nav state address initial task
 
-  abbrev same : n.requests ≡ e.start.requests
+  abbrev same : n.requests ≡ (seen_start e).requests
   same = did_requests e proc job outcome del t queue blame stands aside (made_asks e proc job outcome del t queue blame stands aside nav state address initial task)
 
   -- the load that waits for the document is the only one
@@ -104,18 +99,14 @@ module _ (e : InEvent) (proc : ProcId) (job : Job) (outcome : Outcome) (del : Is
         subst (λ (x : Seen). length x.kept ≤ u.kept.keep) (sym (did_now e proc job outcome del t queue blame stands aside))
         (subst (λ (l : List DocId). length l ≤ u.kept.keep) (sym (told_kept e proc del.by_coord del.own t queue blame stands aside report del.first)) (subst (λ (k : ℕ). length s.kept ≤ k) (sym kept.keep) stands.between.few))
 
-    checks : AreInCheck e.checking (log_of e [])
-    checks =
-        checks_first e aside t.running (subst (λ (x : Seen). ArePlain t.running x) (sym (did_now e proc job outcome del t queue blame stands aside)) (did_tab e proc job outcome del t queue blame stands aside).asked)
-
-    pub noted_passing : HasRoomFor e.start → IsPassing (record { event = e; loads = check.loads; hand = [] }) [] u
-    noted_passing room =
+    pub noted_passing : HasLogged e t.checks → HasRoomFor (seen_start e) → IsPassing (record { event = e; loads = check.loads; hand = [] }) [] u
+    noted_passing logged room =
         record {
-          work = work_first e u aside checks (λ r q at. (stands.between.tab.asked.each r q at).nr) own_leads (subst (λ (a : Actor). IsWorker a) (sym del.by_coord) tt) (told_legal e proc del.by_coord del.own t queue blame stands aside report del.first) noted_tied;
+          work = work_first e u (subst (λ (es : List (ReqId × OpenCheck)). HasLogged e es) (sym kept.checks) logged) own_leads (subst (λ (a : Actor). IsWorker a) (sym del.by_coord) tt) noted_tied;
           going = subst (λ (r : Option ReqId). IsGoing r check.loads [] (now_of e [])) (sym kept.running) (told_going e proc del.by_coord del.own t queue blame stands aside report del.first same room check.loads [] (did_tab e proc job outcome del t queue blame stands aside) (told_held e proc del.by_coord del.own t queue blame stands aside report del.first same (did_parked e proc job outcome del t queue blame stands aside)) (rw (places_now e proc job outcome del t queue blame stands aside nav state address initial task) stands.lasts.counted.epochs));
-          owed = loose_owed e [] (loose_first e aside.undue);
-          loose = λ all. loose_first e aside.undue;
+          owed = loose_owed e [] (loose_first e logged.logged.undue);
+          loose = λ all. loose_first e logged.logged.undue;
           rests = told_rests e proc del.by_coord del.own t queue blame stands aside report del.first;
-          duly = subst AreLeftDuly (sym (uncut_log e aside.uncut ∙ ap (λ (k : RowKind). after e.start (row_of e k)) del.own)) (row_duly e.start e.event e.actor stands.lasts.duly (rows.Delivered proc) tt);
+          duly = logged.lasts.duly;
           few = few;
         }

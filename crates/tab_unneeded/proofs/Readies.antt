@@ -1,4 +1,5 @@
 -- A document was made and discarded at once: a pass may follow.
+use Rattle.load_doors.proofs.Starts.{requests_start}
 use Rattle.log_model.specs.Queue.{is_traverse}
 use Rattle.seen_facts.specs.Asked.Asking.{ArePlain}
 use Rattle.seen_facts.specs.Coord.Leading.{held_back}
@@ -24,7 +25,7 @@ use Rattle.std.proofs.lemmas.Bool.{and_parts}
 use Rattle.std.specs.List.{list_any}
 use Rattle.std.specs.Prelude.{option_map}
 use Rattle.tab_doors.specs.Orders.{order_to}
-use Rattle.tab_doors.specs.Working.{KeepsRun, KeepsStore}
+use Rattle.tab_doors.specs.Working.{KeepsRun, KeepsStore, StartsPlain}
 use Rattle.tab_doors.specs.declared.tables.Tables.{Tables}
 use Rattle.tab_ids.specs.declared.NavId.{NavId}
 use Rattle.tab_ids.specs.declared.ProcId.{ProcId}
@@ -38,18 +39,18 @@ use Rattle.tab_stands.proofs.PassedOn.{queue_over, turning_on, unheld_first}
 use Rattle.tab_stands.proofs.Placed.{made_asks}
 use Rattle.tab_stands.proofs.Ready.{calm_before}
 use Rattle.tab_stands.proofs.Reports.{between_as, goal_as, lasts_as, told_turning}
-use Rattle.tab_stands.specs.Delivering.{IsDelivery}
+use Rattle.tab_stands.specs.Delivering.{IsSeenDelivery}
 use Rattle.tab_stands.specs.PassedOn.{AreUnheld, HasQueue, IsPassing, IsQueueing, IsReady, IsStray, IsTaking, LateKnown, LeavesQueue, MayRelease, MovedAreShown}
-use Rattle.tab_stands.specs.Standing.{InCheck, StandsFor, StartsUnasked}
+use Rattle.tab_stands.specs.Standing.{InCheck, IsOwnRead, StandsFor, seen_start}
 use Rattle.tab_unneeded.proofs.Comes.{discarded_comes, discarded_usable, requests_same, then_is}
 use Rattle.log_model.specs.declared.job.Task.TheVariants as tasks
 use Rattle.log_model.specs.declared.job.Why.TheVariants as whys
 use Rattle.log_model.specs.declared.made.Report.TheVariants as reports
 use Rattle.log_model.specs.declared.row_kind.RowKind.TheVariants as rows
 
-module _ (e : InEvent) (proc : ProcId) (job : Job) (outcome : Outcome) (del : IsDelivery e proc (reports.Done job outcome None)) (t : Tables) (queue : Queue) (blame : List (StateId × ReqId)) {check : InCheck} (stands : StandsFor check e.start t queue blame) (aside : StartsUnasked e) (nav : NavId) (state : StateId) (address : List ℕ) (initial : Bool) (task : job.task ≡ tasks.Populate nav state address initial) (why : Why) (unasked : (req : ReqId) → why ≡ whys.Req req → ⊥) (stray : IsStray (now_of e []) job.doc state) (u : Tables) (noted : KeepsRun t u) (first : IsPassing (record { event = e; loads = check.loads; hand = [] }) [] u) (out : List RowKind) (v : Tables) (is : out ≡ rows.Sent (order_to (now_of e []) job.doc why tasks.Discard) ∷ []) (keeps : KeepsStore u v) (passing : IsPassing (record { event = e; loads = check.loads; hand = [] }) out v) (header : t.kept.keep ≡ e.header.keep) where
+module _ (e : InEvent) (proc : ProcId) (job : Job) (outcome : Outcome) (del : IsSeenDelivery e proc (reports.Done job outcome None)) (t : Tables) (queue : Queue) (blame : List (StateId × ReqId)) {check : InCheck} (stands : StandsFor check (seen_start e) t queue blame) (aside : IsOwnRead e) (nav : NavId) (state : StateId) (address : List ℕ) (initial : Bool) (task : job.task ≡ tasks.Populate nav state address initial) (why : Why) (unasked : (req : ReqId) → why ≡ whys.Req req → ⊥) (stray : IsStray (now_of e []) job.doc state) (u : Tables) (noted : KeepsRun t u) (first : IsPassing (record { event = e; loads = check.loads; hand = [] }) [] u) (out : List RowKind) (v : Tables) (is : out ≡ rows.Sent (order_to (now_of e []) job.doc why tasks.Discard) ∷ []) (keeps : KeepsStore u v) (passing : IsPassing (record { event = e; loads = check.loads; hand = [] }) out v) (header : t.kept.keep ≡ e.header.keep) (uncut : e.before ≡ []) (plain_start : StartsPlain e) where
   abbrev s : Seen
-  s = e.start
+  s = seen_start e
 
   abbrev n : Seen
   n = now_of e out
@@ -81,14 +82,14 @@ module _ (e : InEvent) (proc : ProcId) (job : Job) (outcome : Outcome) (del : Is
 
   taking : IsTaking e v.running blame n
   taking =
-      taking_then e v.running v.kept.keep v.goal blame n (between_as t v kept_run s stands.between) (lasts_as t v kept_run s stands.lasts) (goal_as t v kept_run s.requests stands.tied.goal) check.loads [] passing.going.tab passing.work.goal comes unheld
+      taking_then (seen_start e) v.running v.kept.keep v.goal blame n (between_as t v kept_run s stands.between) (lasts_as t v kept_run s stands.lasts) (goal_as t v kept_run s.requests stands.tied.goal) check.loads [] passing.going.tab passing.work.goal comes e refl unheld
     where
       before : (now_of e []).requests ≡ s.requests
       before = ap (λ (x : Seen). x.requests) (did_now e proc job outcome del t queue blame stands aside) ∙ same
 
       unheld : AreUnheld e n
       unheld req x its =
-          unheld_first (record { event = e; loads = check.loads; hand = [] }) u aside.uncut first req x (record { look = its.look; at = ap (λ (l : List Asked). option_map look (request_in l req)) (before ∙ sym requests) ∙ its.at; ongoing = its.ongoing; loads_it = its.loads_it })
+          unheld_first (record { event = e; loads = check.loads; hand = [] }) u uncut first req x (record { look = its.look; at = ap (λ (l : List Asked). option_map look (request_in l req)) (before ∙ sym requests) ∙ its.at; ongoing = its.ongoing; loads_it = its.loads_it })
 
   -- ---- what waits, and what is held back
 
@@ -145,9 +146,9 @@ module _ (e : InEvent) (proc : ProcId) (job : Job) (outcome : Outcome) (del : Is
       record {
         by_coord = del.by_coord;
         takes = ap takes_report del.own;
-        many = ap length requests;
+        many = ap length requests ∙ requests_start e;
         old = λ req has. (
-          ap (λ (l : List ReqId). has_req l req) (sym (held_first e aside.uncut)) ∙ (ap (λ (l : List ReqId). has_req l req) (sym parked_first) ∙ has),
+          ap (λ (l : List ReqId). has_req l req) (sym (held_first e uncut)) ∙ (ap (λ (l : List ReqId). has_req l req) (sym parked_first) ∙ has),
           ap (λ (l : List ReqId). has_req l req) (sym parked) ∙ has,
         );
       }
@@ -155,11 +156,11 @@ module _ (e : InEvent) (proc : ProcId) (job : Job) (outcome : Outcome) (del : Is
   queueing : IsQueueing (record { event = e; loads = check.loads; hand = [] }) out v queue
   queueing =
       record {
-        turning = turning_on e [] out (inl parked_first) (λ req. ap (λ (l : List Asked). option_map wish (request_in l req)) requests_first) (λ req has. ap (λ (l : List ReqId). has_req l req) (sym joined_first) ∙ has) (told_turning e proc del.by_coord del.own t queue blame stands aside (reports.Done job outcome None) del.first same (did_tab e proc job outcome del t queue blame stands aside).known);
+        turning = turning_on e [] out (inl parked_first) (λ req. ap (λ (l : List Asked). option_map wish (request_in l req)) requests_first) (λ req has. ap (λ (l : List ReqId). has_req l req) (sym joined_first) ∙ has) (told_turning e proc del.by_coord del.own t queue blame stands aside (reports.Done job outcome None) del.first same (did_tab e proc job outcome del t queue blame stands aside).known uncut plain_start);
         queued = subst (λ (r : Option ReqId). HasQueue n r queue.waiting) (sym kept_run.running) (queue_over s n leaves t.running queue.waiting stands.queue);
         parked = stands.parked ∙ ap (λ (l : List Asked). held_back l s.parked) (sym requests) ∙ ap (λ (l : List ReqId). held_back n.requests l) (sym parked);
         held = λ idle. parked ∙ stands.between.held (sym kept_run.running ∙ idle);
-        over = λ has. absurd (let never : false ≡ true = sym (ap (λ (l : List RowKind). has_traversed e l) is ∙ ap (λ (l : List RowKind). list_any is_traverse (map (row_of e) l ++ row_of e (rows.Sent (order_to (now_of e []) job.doc why tasks.Discard)) ∷ [])) aside.uncut) ∙ has in cc);
+        over = λ has. absurd (let never : false ≡ true = sym (ap (λ (l : List RowKind). has_traversed e l) is ∙ ap (λ (l : List RowKind). list_any is_traverse (map (row_of e) l ++ row_of e (rows.Sent (order_to (now_of e []) job.doc why tasks.Discard)) ∷ [])) uncut) ∙ has in cc);
         releasing = λ some all. release;
       }
 

@@ -28,9 +28,9 @@ use Rattle.tab_ids.specs.declared.StateId.{StateId}
 use Rattle.tab_stands.proofs.Dones.{did, did_now, did_requests}
 use Rattle.tab_stands.proofs.Placed.{made_asks, made_then}
 use Rattle.tab_stands.proofs.Unmade.{d, its_found, its_number, its_state, made_at, undiscarded}
-use Rattle.tab_stands.specs.Delivering.{IsDelivery}
+use Rattle.tab_stands.specs.Delivering.{IsSeenDelivery}
 use Rattle.tab_stands.specs.PassedOn.{IsStray}
-use Rattle.tab_stands.specs.Standing.{InCheck, StandsFor, StartsUnasked}
+use Rattle.tab_stands.specs.Standing.{InCheck, IsOwnRead, StandsFor, seen_start}
 use Rattle.tab_sweeps.proofs.Loads.{log_unloaded, state_unloaded}
 use Rattle.tab_sweeps.specs.Sweeping.{loads_state, unneeded_in}
 use Rattle.tab_unneeded.specs.Telling.{is_unneeded_in}
@@ -44,9 +44,9 @@ state_held state held history same =
     ∙ ap (nat_lt 0) (sym (count_by-ordered (λ (row : Row). row.state.0 == state.0) held.rows) ∙ ap (count_by (λ (row : Row). row.state.0 == state.0)) same.rows ∙ count_by-ordered (λ (row : Row). row.state.0 == state.0) history.rows)
     ∙ any_counted (λ (row : Row). row.state.0 == state.0) history.rows
 
-module _ (e : InEvent) (proc : ProcId) (job : Job) (outcome : Outcome) (del : IsDelivery e proc (reports.Done job outcome None)) (t : Tables) (queue : Queue) (blame : List (StateId × ReqId)) {check : InCheck} (stands : StandsFor check e.start t queue blame) (aside : StartsUnasked e) (nav : NavId) (state : StateId) (address : List ℕ) (initial : Bool) (task : job.task ≡ tasks.Populate nav state address initial) where
+module _ (e : InEvent) (proc : ProcId) (job : Job) (outcome : Outcome) (del : IsSeenDelivery e proc (reports.Done job outcome None)) (t : Tables) (queue : Queue) (blame : List (StateId × ReqId)) {check : InCheck} (stands : StandsFor check (seen_start e) t queue blame) (aside : IsOwnRead e) (nav : NavId) (state : StateId) (address : List ℕ) (initial : Bool) (task : job.task ≡ tasks.Populate nav state address initial) where
   abbrev s : Seen
-  s = e.start
+  s = seen_start e
 
   abbrev n : Seen
   n = now_of e []

@@ -1,6 +1,6 @@
 -- A document that nothing needs as it is made, and that was made for no request.
 -- HTML Standard, "attempt to populate the history entry's document" and "destroy a document"; that such a document is discarded at once, for what it was made for, is this project's own.
-use Rattle.tab_stands.specs.Standing.{InCheck, StartsUnasked}
+use Rattle.tab_stands.specs.Standing.{InCheck, IsOwnRead}
 use Rattle.log_model.specs.declared.job.Job.{Job}
 use Rattle.log_model.specs.declared.job.Why.{Why}
 use Rattle.log_model.specs.declared.outcome.Outcome.{Outcome}
@@ -12,7 +12,7 @@ use Rattle.tab_ids.specs.declared.NavId.{NavId}
 use Rattle.tab_ids.specs.declared.ProcId.{ProcId}
 use Rattle.tab_ids.specs.declared.ReqId.{ReqId}
 use Rattle.tab_ids.specs.declared.StateId.{StateId}
-use Rattle.tab_stands.specs.Delivering.{IsDelivery}
+use Rattle.tab_stands.specs.Delivering.{IsSeenDelivery}
 use Rattle.tab_stands.specs.PassedOn.{InPass, IsStray}
 use Rattle.log_model.specs.declared.job.Task.TheVariants as tasks
 use Rattle.log_model.specs.declared.job.Why.TheVariants as whys
@@ -32,10 +32,10 @@ pub record InMade : Type 0 where
 abbrev pub pass_in : InMade → InPass
 pass_in m = record { event = m.event; loads = m.check.loads; hand = [] }
 
--- nobody is in a check, and the report tells that the document was made for the document state, for this reason, which is no request; and the document is stray then
+-- the event's own row is read off, and the report tells that the document was made for the document state, for this reason, which is no request; and the document is stray then
 pub record IsMadeUnneeded (m : InMade) (doc : DocId) (state : StateId) (why : Why) : Type 0 where
-  pub aside : StartsUnasked m.event
-  pub tells : IsDelivery m.event m.proc (reports.Done m.job m.outcome None)
+  pub aside : IsOwnRead m.event
+  pub tells : IsSeenDelivery m.event m.proc (reports.Done m.job m.outcome None)
   pub nav : NavId
   pub address : List ℕ
   pub initial : Bool

@@ -7,7 +7,7 @@ ghost use Rattle.seen_laws.specs.InEvent.{now_of};
 ghost use Rattle.tab_doors.specs.Orders.{order_to};
 ghost use Rattle.tab_doors.specs.Working.{KeepsRun};
 ghost use Rattle.tab_stands.specs.PassedOn.{IsReady};
-ghost use Rattle.tab_stands.specs.Standing.{HasRoomFor, StandsFor};
+ghost use Rattle.tab_stands.specs.Standing.{HasLogged, HasRoomFor, StandsFor, seen_start};
 ghost use Rattle.tab_unneeded.specs.Made.{InMade, IsMadeUnneeded, pass_in};
 
 use address::OutOfMemory;
@@ -29,9 +29,10 @@ pub fn discard_made(
     ghost m: { InMade }
     requires keep { tables.old.kept.keep ≡ m.event.header.keep }
     requires first { out.old ≡ [] }
-    requires room { HasRoomFor m.event.start }
-    requires stands { StandsFor m.check m.event.start tables.old m.queue m.noted }
+    requires room { HasRoomFor (seen_start m.event) }
+    requires stands { StandsFor m.check (seen_start m.event) tables.old m.queue m.noted }
     requires made { IsMadeUnneeded m doc state why }
+    requires logged { HasLogged m.event tables.old.checks }
     ensures out { OnOk result (out.new ≡ rows.Sent (order_to (now_of m.event []) doc why tasks.Discard) ∷ []) }
     ensures ready { OnOk result (IsReady (pass_in m) out.new tables.new m.queue m.noted whys.Start) }
     ensures kept { OnOk result (KeepsRun tables.old tables.new) }

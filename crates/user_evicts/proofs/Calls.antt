@@ -1,4 +1,5 @@
 -- What the call asks of its parts, and what it says, in the words of its contract.
+use Rattle.load_doors.specs.Logged.{IsLogged}
 use Rattle.seen_facts.specs.Hang.Members.{Has}
 use Rattle.seen_facts.proofs.Kept.States.{states_oldest}
 use Rattle.seen_facts.specs.Kept.Keeping.{state_in}
@@ -9,7 +10,7 @@ use Rattle.move_queue.specs.Queue.{Queue}
 use Rattle.nav_tree.specs.Tree.{docs_of, document_of as document_at}
 use Rattle.nav_tree.specs.declared.place.Place as live_place
 use Rattle.page_cache.specs.Kept.{oldest_of}
-use Rattle.seen_laws.specs.InEvent.{InEvent, now_of}
+use Rattle.seen_laws.specs.InEvent.{InEvent, log_of, now_of}
 use Rattle.std.proofs.Common.{Bool, List, None, Option, Some, [], ap, false, refl, subst, sym, true, ◌++◌, ◌∙◌, ◌∷◌, ◌≡◌}
 use Rattle.std.specs.List.Sorted.{IsPermutation}
 use Rattle.std.specs.Option.{IsSome}
@@ -25,11 +26,11 @@ use Rattle.tab_ids.specs.declared.ReqId.{ReqId}
 use Rattle.tab_ids.specs.declared.StateId.{StateId}
 use Rattle.tab_passes.proofs.Onlies.{only_then}
 use Rattle.tab_stands.specs.PassedOn.{IsReady}
-use Rattle.tab_stands.specs.Standing.{HasRoomFor, InCheck, StandsFor, StartsUnasked}
+use Rattle.tab_stands.specs.Standing.{HasRoomFor, InCheck, LastsInLog, StandsFor, StartsUnasked, seen_start}
 use Rattle.user_evicts.proofs.Gones.{below_listed, first_fewer, first_letting, first_only, first_stays, first_unkept}
 use Rattle.user_evicts.proofs.Kepts.{its_evicted, its_listed}
 use Rattle.user_evicts.proofs.Lefts.{gone_over}
-use Rattle.user_evicts.proofs.Owns.{due_own, tab_own, tied_own, were_own}
+use Rattle.user_evicts.proofs.Owns.{due_own, due_start, tab_own, tied_own, were_own}
 use Rattle.user_evicts.proofs.Readies.{evicted_ready}
 use Rattle.user_evicts.specs.Discarding.{IsEvicted}
 use Rattle.user_evicts.specs.Evicting.{HasEvicted, IsEvictAsk}
@@ -37,7 +38,7 @@ use Rattle.log_model.specs.declared.job.Task.TheVariants as tasks
 use Rattle.log_model.specs.declared.job.Why.TheVariants as whys
 use Rattle.log_model.specs.declared.row_kind.RowKind.TheVariants as rows
 
-module _ (e : InEvent) (state : StateId) (asks : IsEvictAsk e state) (t : Tables) (queue : Queue) (blame : List (StateId × ReqId)) {check : InCheck} (stands : StandsFor check e.start t queue blame) (aside : StartsUnasked e) (room : HasRoomFor e.start) where
+module _ (e : InEvent) (state : StateId) (asks : IsEvictAsk e state) (t : Tables) (queue : Queue) (blame : List (StateId × ReqId)) {check : InCheck} (stands : StandsFor check (seen_start e) t queue blame) (aside : StartsUnasked e) (logged : IsLogged e t.checks) (logs : LastsInLog e.checking (log_of e [])) (room : HasRoomFor (seen_start e)) where
   abbrev n : Seen
   n = now_of e []
 
@@ -45,12 +46,12 @@ module _ (e : InEvent) (state : StateId) (asks : IsEvictAsk e state) (t : Tables
   oldest_is : oldest_of t.kept.states ≡ Some state
   oldest_is =
       ap (λ (l : List StateId). oldest_of l) (stands.tied.kept)
-      ∙ states_oldest e.start.documents e.start.kept there
-      ∙ ap (λ (o : Option DocId). option_and_then (state_in e.start.documents) o) asks.due.last
-      ∙ ap (λ (o : Option Document). option_map (λ (d : Document). d.state) o) asks.due.found
-      ∙ ap (λ (x : StateId). let o : Option StateId = Some x in o) asks.due.state_is
+      ∙ states_oldest (seen_start e).documents (seen_start e).kept there
+      ∙ ap (λ (o : Option DocId). option_and_then (state_in (seen_start e).documents) o) (due_start e state asks t queue blame stands aside logged logs).last
+      ∙ ap (λ (o : Option Document). option_map (λ (d : Document). d.state) o) (due_start e state asks t queue blame stands aside logged logs).found
+      ∙ ap (λ (x : StateId). let o : Option StateId = Some x in o) (due_start e state asks t queue blame stands aside logged logs).state_is
     where
-      there : (doc : DocId) → Has e.start.kept doc → (x : StateId) × (state_in e.start.documents doc ≡ Some x)
+      there : (doc : DocId) → Has (seen_start e).kept doc → (x : StateId) × (state_in (seen_start e).documents doc ≡ Some x)
       there doc has =
           let its = stands.between.tab.kept.each doc has in
           (its.d.state, ap (λ (o : Option Document). option_map (λ (d : Document). d.state) o) its.found)
@@ -62,7 +63,7 @@ module _ (e : InEvent) (state : StateId) (asks : IsEvictAsk e state) (t : Tables
   longest_is longest at = let both : Some longest ≡ Some state = sym at ∙ oldest_is in cc
 
   listed : option_map (λ (q : live_place.Place). q.doc) (document_at state t.tree) ≡ Some asks.doc
-  listed = its_listed e state asks t (tied_own e state asks t queue blame stands aside) (tab_own e state asks t queue blame stands aside) (were_own e state asks t queue blame stands aside) (due_own e state asks t queue blame stands aside)
+  listed = its_listed e state asks t (tied_own e state asks t queue blame stands aside logged logs) (tab_own e state asks t queue blame stands aside logged logs) (were_own e state asks t queue blame stands aside logged logs) (due_own e state asks t queue blame stands aside logged logs)
 
   -- ---- under the names of the call: the state, and the document
 
@@ -83,7 +84,7 @@ module _ (e : InEvent) (state : StateId) (asks : IsEvictAsk e state) (t : Tables
       pub evicted_as : IsEvicted e t doc own
       evicted_as =
           subst (λ (x : StateId). IsEvicted e t doc x) (sym (longest_is own at))
-          (subst (λ (d : DocId). IsEvicted e t d state) doc_is (its_evicted e state asks t (tied_own e state asks t queue blame stands aside) (tab_own e state asks t queue blame stands aside) (were_own e state asks t queue blame stands aside) (due_own e state asks t queue blame stands aside) aside))
+          (subst (λ (d : DocId). IsEvicted e t d state) doc_is (its_evicted e state asks t (tied_own e state asks t queue blame stands aside logged logs) (tab_own e state asks t queue blame stands aside logged logs) (were_own e state asks t queue blame stands aside logged logs) (due_own e state asks t queue blame stands aside logged logs) aside logged))
 
       -- ---- it was discarded
 
@@ -92,7 +93,7 @@ module _ (e : InEvent) (state : StateId) (asks : IsEvictAsk e state) (t : Tables
         is = put ∙ ap (λ (d : DocId). let l : List RowKind = rows.Sent (order_to n d whys.Evict tasks.Discard) ∷ [] in l) (sym doc_is)
 
         letting : IsLetting (record { pass = record { event = e; loads = check.loads; hand = [] }; moved = None }) state whys.Evict first v
-        letting = first_letting e state asks t queue blame stands aside room first v is keeps work
+        letting = first_letting e state asks t queue blame stands aside logged logs room first v is keeps work
 
         pub letting_as : IsLetting (record { pass = record { event = e; loads = check.loads; hand = [] }; moved = None }) own whys.Evict first v
         letting_as =
@@ -102,7 +103,7 @@ module _ (e : InEvent) (state : StateId) (asks : IsEvictAsk e state) (t : Tables
 
         module _ (out : List RowKind) (u : Tables) (more : HasOnlyDiscarded whys.Evict first out) (stays : StaysPlaced (now_of e first) (now_of e out)) (then_ : KeepsStore v u) where
           only : HasOnlyDiscarded whys.Evict [] out
-          only = only_then (IsDiscardFor whys.Evict) [] first out (first_only e state asks t queue blame stands aside room first v is) more
+          only = only_then (IsDiscardFor whys.Evict) [] first out (first_only e state asks t queue blame stands aside logged logs room first v is) more
 
           pub kept_as : KeepsStore t u
           kept_as =
@@ -110,7 +111,7 @@ module _ (e : InEvent) (state : StateId) (asks : IsEvictAsk e state) (t : Tables
 
           pub ready_as : t.kept.keep ≡ e.header.keep → IsLetting (record { pass = record { event = e; loads = check.loads; hand = [] }; moved = None }) own whys.Evict out u → IsReady (record { event = e; loads = check.loads; hand = [] }) out u queue blame whys.Evict
           ready_as header so =
-              evicted_ready e state asks t queue blame stands aside room header out u kept_as (subst (λ (x : StateId). IsLetting (record { pass = record { event = e; loads = check.loads; hand = [] }; moved = None }) x whys.Evict out u) (longest_is own at) so) only (stays_then n (now_of e first) (now_of e out) (first_stays e state asks t queue blame stands aside room first v is) stays)
+              evicted_ready e state asks t queue blame stands aside logged logs room header out u kept_as (subst (λ (x : StateId). IsLetting (record { pass = record { event = e; loads = check.loads; hand = [] }; moved = None }) x whys.Evict out u) (longest_is own at) so) only (stays_then n (now_of e first) (now_of e out) (first_stays e state asks t queue blame stands aside logged logs room first v is) stays)
 
           unkept : has_doc (now_of e out).kept asks.doc ≡ false
           unkept = by_test (has_doc (now_of e out).kept asks.doc) refl
@@ -118,7 +119,7 @@ module _ (e : InEvent) (state : StateId) (asks : IsEvictAsk e state) (t : Tables
               by_test : (b : Bool) → has_doc (now_of e out).kept asks.doc ≡ b → has_doc (now_of e out).kept asks.doc ≡ false
               by_test false none = none
               by_test true has =
-                  let never : true ≡ false = sym ((gone_over e first out more).kept asks.doc has) ∙ first_unkept e state asks t queue blame stands aside room first v is in
+                  let never : true ≡ false = sym ((gone_over e first out more).kept asks.doc has) ∙ first_unkept e state asks t queue blame stands aside logged logs room first v is in
                   absurd cc
 
           pub came_as : (docs : List DocId) → IsPermutation (docs_of t.tree) docs → NoMoreBelow own (now_of e first) (now_of e out) → NoneOfBelow docs (now_of e out) own → HasEvicted e state out
@@ -134,6 +135,6 @@ module _ (e : InEvent) (state : StateId) (asks : IsEvictAsk e state) (t : Tables
                 task = refl;
                 why = refl;
                 only = only;
-                none = none_there (record { pass = record { event = e; loads = check.loads; hand = [] }; moved = None }) state whys.Evict first v letting n (now_of e out) docs t.tree (below_listed e state asks t queue blame stands aside room) order (first_fewer e state asks t queue blame stands aside room first v is) (subst (λ (x : StateId). NoMoreBelow x (now_of e first) (now_of e out)) (longest_is own at) fewer) (subst (λ (x : StateId). NoneOfBelow docs (now_of e out) x) (longest_is own at) none);
+                none = none_there (record { pass = record { event = e; loads = check.loads; hand = [] }; moved = None }) state whys.Evict first v letting n (now_of e out) docs t.tree (below_listed e state asks t queue blame stands aside logged logs room) order (first_fewer e state asks t queue blame stands aside logged logs room first v is) (subst (λ (x : StateId). NoMoreBelow x (now_of e first) (now_of e out)) (longest_is own at) fewer) (subst (λ (x : StateId). NoneOfBelow docs (now_of e out) x) (longest_is own at) none);
                 unkept = unkept;
               }

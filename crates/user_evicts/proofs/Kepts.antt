@@ -1,6 +1,5 @@
 -- The document that is kept longest, as the user evicts it: nobody is awake on it, and the tables have it for its state alone.
-use Rattle.tab_doors.proofs.Uncut.{uncut_now}
-use Rattle.tab_stands.proofs.Begun.{checks_first}
+use Rattle.load_doors.specs.Logged.{IsLogged}
 use Rattle.tab_stands.specs.Standing.{StartsUnasked}
 use Rattle.seen_facts.proofs.Asked.Passed.{asked_all}
 use Rattle.seen_facts.proofs.Hang.Hung.{places_distinct}
@@ -24,15 +23,13 @@ use Rattle.log_model.specs.AfterPlaces.{sleepers_with}
 use Rattle.log_model.specs.Equal.{has_doc, holds}
 use Rattle.log_model.specs.History.{has_nav}
 use Rattle.log_model.specs.Places.{all_asked}
-use Rattle.log_model.specs.After.{after}
-use Rattle.log_model.specs.Seen.{Asked, Document, Place, Seen, document_of, place_of, request_of}
-use Rattle.log_model.specs.declared.row_kind.RowKind.{RowKind}
+use Rattle.log_model.specs.Seen.{Asked, Document, Place, Seen, document_of, place_of}
 use Rattle.log_model.specs.declared.row_kind.LogRow.{LogRow}
 use Rattle.nav_tree.specs.Tree.{document_of as document_at}
 use Rattle.nav_tree.specs.declared.place.Place as live_place
 use Rattle.seen_facts.proofs.Rest.Stands.{all_requests}
 use Rattle.seen_facts.proofs.Rest.Still.{found_itself}
-use Rattle.seen_laws.specs.InEvent.{InEvent, now_of, row_of}
+use Rattle.seen_laws.specs.InEvent.{InEvent, now_of}
 use Rattle.std.proofs.Common.{Bool, List, None, Option, Some, [], ap, arith, false, map, not, refl, subst, sym, true, ℕ, ◌&&◌, ◌==◌, ◌||◌, ◌∙◌, ◌≡◌}
 use Rattle.std.proofs.lemmas.Bool.Decides.{nat_tests}
 use Rattle.std.specs.Prelude.{find, option_map}
@@ -207,12 +204,11 @@ module _ (e : InEvent) (state : StateId) (asks : IsEvictAsk e state) (t : Tables
           let one : of_.it ≡ document = cc in
           ap (λ (y : Sight). y.state) (sym of_.is) ∙ ap (λ (y : Document). y.state) one ∙ due.state_is
 
-  pub its_evicted : StartsUnasked e → IsEvicted e t asks.doc state
-  its_evicted aside =
+  pub its_evicted : StartsUnasked e → IsLogged e t.checks → IsEvicted e t asks.doc state
+  its_evicted aside logged =
       record {
         aside = aside;
-        numbered = λ r q at. (tab.asked.each r q (ap (λ (x : Seen). request_of x r) (sym (uncut_now e aside.uncut aside.plain) ∙ ap (λ (k : RowKind). after e.start (row_of e k)) asks.own) ∙ at)).nr;
-        checks = checks_first e aside t.running tab.asked;
+        logged = logged;
         by_user = asks.by_user;
         own = asks.own;
         document = document;

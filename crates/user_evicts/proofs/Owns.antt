@@ -1,5 +1,9 @@
 -- The own row of an eviction was logged: all goes on as it was, and what documents made may be taken.
-use Rattle.tab_doors.proofs.Uncut.{uncut_held, uncut_now}
+use Rattle.log_model.specs.Equal.{has_req}
+use Rattle.load_doors.specs.Logged.{IsLogged}
+use Rattle.tab_stands.proofs.Logged.{own_read, start_plain}
+use Rattle.load_doors.proofs.Starts.{requests_start}
+use Rattle.tab_doors.proofs.Uncut.{uncut_held}
 use Rattle.tab_facts.proofs.Calm.Loads.{loads_same}
 use Rattle.seen_facts.proofs.Coord.Unread.{next}
 use Rattle.tab_facts.specs.FrameTab.Asking.{NoneHeld}
@@ -21,7 +25,7 @@ use Rattle.move_queue.specs.Queue.{Queue}
 use Rattle.row_facts.proofs.RestRows.Rows.{evicted_rests}
 use Rattle.row_facts.specs.RestRows.Moving.{AllRest}
 use Rattle.seen_laws.specs.Blocks.{point_at}
-use Rattle.seen_laws.specs.InEvent.{InEvent, IsTakenIn, now_of, row_of, start_of}
+use Rattle.seen_laws.specs.InEvent.{InEvent, IsTakenIn, log_of, now_of, row_of, start_of}
 use Rattle.std.proofs.Common.{List, None, Option, Some, [], ap, arith, false, inl, inr, length, refl, subst, sym, true, ℕ, ◌+◌, ◌<◌, ◌∙◌, ◌≡◌, ◌≤◌, ◌⊎◌}
 use Rattle.std.proofs.lemmas.Bool.Decides.{nat_tests}
 use Rattle.std.proofs.lemmas.List.{map-id}
@@ -40,7 +44,7 @@ use Rattle.tab_stands.proofs.MovedEvents.{moved_coming}
 use Rattle.tab_stands.proofs.PassedOn.{queue_over, steps_still, turning_first, unstood_by}
 use Rattle.tab_stands.proofs.Waiting.{off_where_runs}
 use Rattle.tab_stands.specs.PassedOn.{AreHeldUp, AreUnheld, HasQueue, HoldsParked, IsGoing, IsLeftStray, IsStray, IsTab, IsTaking, IsTurning, LateKnown, LeavesQueue, LoadsMadeOwn, MayServe, MovedAreShown}
-use Rattle.tab_stands.specs.Standing.{HasRoomFor, InCheck, StandsFor, StartsUnasked}
+use Rattle.tab_stands.specs.Standing.{HasRoomFor, InCheck, LastsInLog, StandsFor, StartsUnasked, seen_start}
 use Rattle.tab_facts.proofs.TabWhole.Beginning.{evicted_tab}
 use Rattle.tab_facts.proofs.TabWhole.Where.{way_unheld}
 use Rattle.user_evicts.specs.Evicting.{IsEvictAsk}
@@ -52,18 +56,18 @@ pub evicted_takes : (e : InEvent) (state : StateId) → IsEvictAsk e state → (
 evicted_takes e state asks later =
     ap (λ (k : RowKind). is_delivered_duly (point_at (start_of e) later) (row_of e k)) asks.own
 
-module _ (e : InEvent) (state : StateId) (asks : IsEvictAsk e state) (t : Tables) (queue : Queue) (blame : List (StateId × ReqId)) {check : InCheck} (stands : StandsFor check e.start t queue blame) (aside : StartsUnasked e) where
+module _ (e : InEvent) (state : StateId) (asks : IsEvictAsk e state) (t : Tables) (queue : Queue) (blame : List (StateId × ReqId)) {check : InCheck} (stands : StandsFor check (seen_start e) t queue blame) (aside : StartsUnasked e) (logged : IsLogged e t.checks) (logs : LastsInLog e.checking (log_of e [])) where
   abbrev s : Seen
-  s = e.start
+  s = seen_start e
 
   abbrev went : Seen
-  went = next e.start e.event actors.Ui (rows.Evicted state)
+  went = next (seen_start e) e.event actors.Ui (rows.Evicted state)
 
   now : now_of e [] ≡ went
   now =
-      sym (uncut_now e aside.uncut aside.plain)
-      ∙ (ap (λ (a : Actor). next e.start e.event a e.own) asks.by_user
-      ∙ ap (λ (k : RowKind). next e.start e.event actors.Ui k) asks.own)
+      own_read e aside
+      ∙ (ap (λ (a : Actor). next (seen_start e) e.event a e.own) asks.by_user
+      ∙ ap (λ (k : RowKind). next (seen_start e) e.event actors.Ui k) asks.own)
 
   tab_went : IsTab t.running check.loads [] went
   tab_went = evicted_tab t.running s e.event actors.Ui stands.between.tab stands.between.flows state
@@ -78,9 +82,12 @@ module _ (e : InEvent) (state : StateId) (asks : IsEvictAsk e state) (t : Tables
   few_own = subst (λ (x : Seen). length x.kept ≤ t.kept.keep) (sym now) stands.between.few
 
   -- it is kept longest still
+  pub due_start : IsEvictDue (seen_start e) state asks.doc asks.document
+  due_start = subst (λ (x : Seen). IsEvictDue x state asks.doc asks.document) (sym (start_plain e aside)) asks.due
+
   pub due_own : IsEvictDue (now_of e []) state asks.doc asks.document
   due_own =
-      subst (λ (x : Seen). IsEvictDue x state asks.doc asks.document) (sym now) (record { last = asks.due.last; found = asks.due.found; state_is = asks.due.state_is })
+      subst (λ (x : Seen). IsEvictDue x state asks.doc asks.document) (sym now) (record { last = due_start.last; found = due_start.found; state_is = due_start.state_is })
 
   -- ---- the tables
 
@@ -97,7 +104,6 @@ module _ (e : InEvent) (state : StateId) (asks : IsEvictAsk e state) (t : Tables
             initial = stands.tied.initial;
             loads = evicted_tied s e.event actors.Ui t.loads stands.tied.loads state;
             kept = stands.tied.kept;
-            checks = stands.tied.checks;
           }
 
   -- ---- what comes, and goes on
@@ -155,7 +161,7 @@ module _ (e : InEvent) (state : StateId) (asks : IsEvictAsk e state) (t : Tables
       by_run None is = tt
       by_run (Some run) is = is
 
-  pub going_own : HasRoomFor e.start → IsGoing t.running check.loads [] (now_of e [])
+  pub going_own : HasRoomFor (seen_start e) → IsGoing t.running check.loads [] (now_of e [])
   going_own room = subst (λ (x : Seen). IsGoing t.running check.loads [] x) (sym now) going
     where
       going : IsGoing t.running check.loads [] went
@@ -171,10 +177,10 @@ module _ (e : InEvent) (state : StateId) (asks : IsEvictAsk e state) (t : Tables
 
   -- who is awake and was moved by the traversal that runs was shown a document by it
   pub moved_own : MovedAreShown t.running (now_of e [])
-  moved_own = moved_coming blame e.start (now_of e []) comes_own t.running stands.between.tab.asked stands.lasts.moved
+  moved_own = moved_coming blame (seen_start e) (now_of e []) comes_own t.running stands.between.tab.asked stands.lasts.moved
 
   pub late_own : LateKnown t.running (now_of e [])
-  late_own = late_first blame e.start (now_of e []) comes_own t.running tab_own.standing stands.lasts.off
+  late_own = late_first blame (seen_start e) (now_of e []) comes_own t.running tab_own.standing stands.lasts.off
 
   -- an ongoing load is on its way, and so isn't held back
   unheld : AreUnheld e (now_of e [])
@@ -185,11 +191,11 @@ module _ (e : InEvent) (state : StateId) (asks : IsEvictAsk e state) (t : Tables
 
   pub taking_own : IsTaking e t.running blame (now_of e [])
   taking_own =
-      taking_then e t.running t.kept.keep t.goal blame (now_of e []) stands.between stands.lasts stands.tied.goal check.loads [] tab_own tied_own.goal comes_own unheld
+      taking_then (seen_start e) t.running t.kept.keep t.goal blame (now_of e []) stands.between stands.lasts stands.tied.goal check.loads [] tab_own tied_own.goal comes_own e refl unheld
 
-  aim_own : aim_of (now_of e []) ≡ aim_of e.start
+  aim_own : aim_of (now_of e []) ≡ aim_of (seen_start e)
   aim_own =
-      aim_same e t.running t.kept.keep t.goal blame (now_of e []) stands.between stands.lasts stands.tied.goal check.loads [] tab_own tied_own.goal comes_own
+      aim_same (seen_start e) t.running t.kept.keep t.goal blame (now_of e []) stands.between stands.lasts stands.tied.goal check.loads [] tab_own tied_own.goal comes_own
 
   -- ---- what waits, and what is held back
 
@@ -199,7 +205,8 @@ module _ (e : InEvent) (state : StateId) (asks : IsEvictAsk e state) (t : Tables
       early : (req : ReqId) (q : Asked) → request_of (now_of e []) req ≡ Some q → denial_at_acceptance e.start q.what ≡ None ⊎ (nat_lt (length e.start.requests) req.0 ≡ false)
       early req q at =
           let low : req.0 ≤ length s.requests = number_low s.requests req q (ap (λ (x : Seen). request_of x req) (sym now) ∙ at) in
-          inr (grind (arith, nat_tests, low))
+          let many : length s.requests ≡ length e.start.requests = requests_start e in
+          inr (grind (arith, nat_tests, low, many))
 
   pub queued_own : HasQueue (now_of e []) t.running queue.waiting
   queued_own = subst (λ (x : Seen). HasQueue x t.running queue.waiting) (sym now) (queue_over s went leaves t.running queue.waiting stands.queue)

@@ -19,14 +19,13 @@ use Rattle.log_model.specs.declared.row_kind.Actor.{Actor}
 use Rattle.log_model.specs.declared.row_kind.RowKind.{RowKind}
 use Rattle.page_cache.specs.Kept.{without}
 use Rattle.seen_facts.specs.Each.Runs.{is_run}
-use Rattle.seen_laws.proofs.InEvents.{log_more, goes_more, none_goes, now_is}
+use Rattle.seen_laws.proofs.InEvents.{log_more, goes_more, none_goes}
 use Rattle.seen_laws.specs.InEvent.{InEvent, log_of, now_of, row_of}
 use Rattle.seen_laws.specs.Sending.{leads}
 use Rattle.std.proofs.Common.{List, None, Option, Some, [], ap, false, length, refl, subst, sym, true, ℕ, ◌++◌, ◌+◌, ◌==◌, ◌∙◌, ◌∷◌, ◌≡◌, ◌≤◌}
 use Rattle.std.proofs.lemmas.List.{length-map}
-use Rattle.tab_doors.proofs.PassedOn.{lawful_pass, nobody_duly, plain_nobody}
+use Rattle.tab_doors.proofs.PassedOn.{lawful_pass}
 use Rattle.tab_doors.specs.PassedOn.{AreAskedDuly, noted_by, told_by}
-use Rattle.tab_stands.proofs.Begun.{start_nobody}
 use Rattle.checking_facts.proofs.Steps.{more_duly}
 use Rattle.unload_check.specs.Checks.{OpenCheck}
 use Rattle.row_facts.proofs.FrameRows.Discards.{discard_quiet}
@@ -79,8 +78,8 @@ module _ (e : InEvent) (t u : Tables) (doc : DocId) (state : StateId) (tied : Ar
         own = ap (λ (k : RowKind). leads k) its.own;
         worker = subst (λ (a : Actor). IsWorker a) (sym its.by_user) tt;
         goes = goes_more e [] [] (rows.Sent order) (none_goes e []) (sent_goes e [] order refl);
-        numbered = its.numbered;
-        read = read_more e [] (rows.Sent order) (read_own e (record { numbered = its.checks.numbered; others = its.checks.others })) (record { numbered = checks_.numbered; others = checks_.others });
+        numbered = its.logged.numbered;
+        read = read_more e [] (rows.Sent order) (read_own e (record { numbered = its.logged.checking.numbered; others = its.logged.checking.others })) (record { numbered = checks_.numbered; others = checks_.others });
         sole = soles_more e [] (rows.Sent order) tt (sole_own e (log_of e []) its.aside.uncut);
         debts = debts_own e its.aside.uncut;
         checks = checks_;
@@ -99,12 +98,7 @@ module _ (e : InEvent) (t u : Tables) (doc : DocId) (state : StateId) (tied : Ar
       checks_ : AreInCheck e.checking (log_of e (rows.Sent order ∷ []))
       checks_ =
           subst (λ (x : Seen). AreInCheck e.checking x) (sym (log_more e [] (rows.Sent order)))
-          (row_checks e.checking (log_of e []) (row_of e (rows.Sent order)) (other_wakes e.checking (log_of e []) order (λ req is. its.aside.unchecked req)) tt its.checks)
-
-      -- nobody was asked, so the table has no checks; it is told of the document
-      asked_first : AreAskedDuly e.checking e.start (log_of e []) (told_by t.checks [])
-      asked_first =
-          nobody_duly e.checking e.start (log_of e []) t.checks (start_nobody e its.aside) (plain_nobody e.checking (log_of e []) (sym (its.aside.plain ∙ now_is e []))) its.checks.numbered its.checks.others its.aside.unchecked tied.checks
+          (row_checks e.checking (log_of e []) (row_of e (rows.Sent order)) (other_wakes e.checking (log_of e []) order (λ req is. its.aside.unchecked req)) tt its.logged.checking)
 
       there : document_of (log_of e []) doc ≡ Some its.gone.document
       there = subst (λ (x : Seen). document_of x doc ≡ Some its.gone.document) (sym its.aside.plain) its.gone.found
@@ -113,7 +107,7 @@ module _ (e : InEvent) (t u : Tables) (doc : DocId) (state : StateId) (tied : Ar
       asked_then same =
           subst (λ (x : Seen). AreAskedDuly e.checking e.start x (told_by u.checks (rows.Sent order ∷ []))) (sym (log_more e [] (rows.Sent order)))
           (subst (λ (es : List (ReqId × OpenCheck)). AreAskedDuly e.checking e.start (after (log_of e []) (row_of e (rows.Sent order))) (told_by es (rows.Sent order ∷ []))) (sym same)
-          (more_duly e [] (told_by t.checks []) asked_first (rows.Sent order) (its.gone.document, there) (discard_quiet e order refl) (keeps_held e [] (rows.Sent order) refl refl) (IsAhead None) (IsAhead None) (λ later is. tt) (subst (λ (x : Seen). AllOthersPass e.checking x) (log_more e [] (rows.Sent order)) checks_.others)))
+          (more_duly e [] (told_by t.checks []) its.logged.asked (rows.Sent order) (its.gone.document, there) (discard_quiet e order refl) (keeps_held e [] (rows.Sent order) refl refl) (IsAhead None) (IsAhead None) (λ later is. tt) (subst (λ (x : Seen). AllOthersPass e.checking x) (log_more e [] (rows.Sent order)) checks_.others)))
 
 -- ---- the order that is counted and put out
 

@@ -1,7 +1,6 @@
 -- When the document that is kept longest is discarded as the user evicts it: by the first row that is put out, without which the event's own row may not be logged.
 -- HTML Standard, "Documents kept for traversal" and "destroy a document"; that the user evicts, and what, is this project's own.
-use Rattle.tab_doors.proofs.PassedOn.{AreNumbered}
-use Rattle.checking_facts.specs.Checks.{AreInCheck}
+use Rattle.load_doors.specs.Logged.{IsLogged}
 use Rattle.tab_stands.specs.Standing.{StartsUnasked}
 use Rattle.seen_facts.proofs.Kept.States.{AreOfOwnStates}
 use Rattle.seen_facts.specs.Kept.Keeping.{is_last}
@@ -10,7 +9,7 @@ use Rattle.row_facts.specs.LeaveRows.Leaving.{IsDiscardOf}
 use Rattle.row_facts.specs.FrameRows.Discarding.{SettlesNone}
 use Rattle.log_model.specs.Seen.{Document, Place, desk_of, place_of}
 use Rattle.log_model.specs.declared.row_kind.LogRow.{LogRow}
-use Rattle.seen_laws.specs.InEvent.{InEvent, log_of, now_of}
+use Rattle.seen_laws.specs.InEvent.{InEvent, now_of}
 use Rattle.std.specs.Prelude.{Some, [], false, ◌≡◌}
 use Rattle.tab_doors.specs.Orders.{IsToGo, order_to, proc_at}
 use Rattle.tab_doors.specs.declared.tables.Tables.{Tables}
@@ -25,8 +24,7 @@ use Rattle.log_model.specs.declared.row_kind.RowKind.TheVariants as rows
 -- in this event, in which nobody is in a check, the user evicts the document state of this document, which is kept longest; nobody is awake on it, no navigable was shown it last, no document waits to be asked, and the tables have it for its state alone, which is no ongoing load's
 pub record IsEvicted (e : InEvent) (t : Tables) (doc : DocId) (state : StateId) : Type 0 where
   pub aside : StartsUnasked e
-  pub numbered : AreNumbered e.start
-  pub checks : AreInCheck e.checking (log_of e [])
+  pub logged : IsLogged e t.checks
   pub by_user : e.actor ≡ actors.Ui
   pub own : e.own ≡ rows.Evicted state
   pub document : Document

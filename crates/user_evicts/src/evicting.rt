@@ -3,7 +3,9 @@ ghost use Rattle.std.specs.Prelude.{◌≡◌, [], OnOk, IsSome, Some};
 ghost use Rattle.page_cache.specs.Kept.{oldest_of};
 ghost use Rattle.tab_doors.specs.Working.{KeepsStore};
 ghost use Rattle.tab_stands.specs.PassedOn.{IsReady};
-ghost use Rattle.tab_stands.specs.Standing.{HasRoomFor, StandsFor, StartsUnasked};
+ghost use Rattle.load_doors.specs.Logged.{IsLogged};
+ghost use Rattle.seen_laws.specs.InEvent.{log_of};
+ghost use Rattle.tab_stands.specs.Standing.{HasRoomFor, LastsInLog, StandsFor, StartsUnasked, seen_start};
 ghost use Rattle.user_evicts.specs.Evicting.{HasEvicted, InEvict, IsEvictAsk, pass_in};
 ghost use Rattle.log_model.specs.declared.job.Why.TheVariants as whys;
 
@@ -33,9 +35,11 @@ pub fn evict_longest(alloc: Global, tables: &mut Tables, out: &mut Out) -> Resul
     requires keep { tables.old.kept.keep ≡ b.event.header.keep }
     requires first { out.old ≡ [] }
     requires asks { IsEvictAsk b.event b.state }
-    requires room { HasRoomFor b.event.start }
-    requires stands { StandsFor b.check b.event.start tables.old b.queue b.noted }
+    requires room { HasRoomFor (seen_start b.event) }
+    requires stands { StandsFor b.check (seen_start b.event) tables.old b.queue b.noted }
     requires aside { StartsUnasked b.event }
+    requires logged { IsLogged b.event tables.old.checks }
+    requires lasts { LastsInLog b.event.checking (log_of b.event []) }
     ensures came { OnOk result (HasEvicted b.event b.state out.new) }
     ensures ready { OnOk result (IsReady (pass_in b) out.new tables.new b.queue b.noted whys.Evict) }
     ensures kept { OnOk result (KeepsStore tables.old tables.new) }

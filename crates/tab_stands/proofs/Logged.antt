@@ -1,0 +1,148 @@
+-- An event in which nobody was asked: what is known of the log once its own row was logged.
+use Rattle.tab_doors.proofs.Uncut.{uncut_pass, uncut_now}
+use Rattle.checking_facts.proofs.Rows.{row_checks}
+use Rattle.checking_facts.specs.Checks.{AreInCheck, GoesDuly}
+use Rattle.checking_facts.specs.States.{LeavesStates}
+use Rattle.leave_facts.proofs.Carried.{row_duly}
+use Rattle.log_model.specs.Checks.{is_settled_by}
+use Rattle.log_model.specs.Equal.{holds}
+use Rattle.log_model.specs.Places.{all_asked, has_passed}
+use Rattle.log_model.specs.Queue.{is_delivered_duly}
+use Rattle.log_model.specs.Seen.{Asked, Seen, desk_of, request_of}
+use Rattle.log_model.specs.declared.made.Report.{Report}
+use Rattle.log_model.specs.declared.outcome.Denial.{Denial}
+use Rattle.log_model.specs.declared.request.Request.{Request}
+use Rattle.log_model.specs.declared.row_kind.Actor.{Actor}
+use Rattle.log_model.specs.declared.row_kind.Actor.TheVariants as actors
+use Rattle.log_model.specs.declared.row_kind.LogRow.{LogRow}
+use Rattle.log_model.specs.declared.row_kind.RowKind.{RowKind}
+use Rattle.log_model.specs.declared.row_kind.RowKind.TheVariants as rows
+use Rattle.seen_facts.proofs.Asked.Passed.{asked_all}
+use Rattle.seen_facts.proofs.Desk.Stays.{NoDeath}
+use Rattle.seen_facts.proofs.Rest.Stands.{all_requests}
+use Rattle.seen_facts.specs.Asked.Asking.{HavePassed}
+use Rattle.seen_laws.proofs.Deliveries.{delivered_may, delivered_row}
+use Rattle.seen_laws.proofs.InEvents.{log_more, now_is, uncut_log}
+use Rattle.seen_laws.specs.Blocks.{EachPass, Here, point_at}
+use Rattle.seen_laws.specs.InEvent.{AreLegal, InEvent, log_of, row_of, start_of, IsTakenIn}
+use Rattle.seen_laws.specs.Sending.{leads}
+use Rattle.std.proofs.Common.{Bool, List, None, Option, Some, [], ap, false, length, not, refl, subst, sym, true, ◌&&◌, ◌+◌, ◌∙◌, ◌∷◌, ◌≡◌, map, ◌++◌}
+use Rattle.std.specs.List.{list_all}
+use Rattle.std.specs.Prelude.{slice_get}
+use Rattle.tab_ids.specs.declared.DocId.{DocId}
+use Rattle.tab_ids.specs.declared.ProcId.{ProcId}
+use Rattle.tab_ids.specs.declared.StateId.{StateId}
+use Rattle.tab_stands.proofs.DulyEvents.{own_duly}
+use Rattle.tab_stands.proofs.EpochRows.{own_under, refused_under}
+use Rattle.tab_doors.proofs.PassedOn.{AreNumbered, lawful_pass, nobody_duly, plain_nobody}
+use Rattle.tab_doors.proofs.Works.{none_steps, start_here}
+use Rattle.tab_doors.specs.PassedOn.{NobodyAsked, NoneChecked, noted_by}
+use Rattle.tab_doors.specs.Working.{IsAhead}
+use Rattle.load_doors.specs.Logged.{IsLogged, IsOwnRead}
+use Rattle.log_model.specs.After.{after}
+use Rattle.row_facts.proofs.FrameRows.LawfulLaws.{lawful_legal}
+use Rattle.seen_laws.specs.Unasked.{unasked}
+use Rattle.tab_ids.specs.declared.ReqId.{ReqId}
+use Rattle.tab_stands.specs.Standing.{HasLogged, LastsInLog, StartsUnasked}
+use Rattle.tab_stands.specs.Offs.{AreShownOnce, AreShownUnder}
+use Rattle.unload_check.specs.Checks.{OpenCheck}
+
+-- what is read of navigables alone
+pub once_of : {s : Seen} → AreShownUnder s → AreShownOnce s.places
+once_of shows = record { unshown = shows.unshown; top_ = shows.top_ }
+
+module _ (e : InEvent) (aside : StartsUnasked e) where
+  -- as it begins the log is as it would be had nobody been asked
+  pub start_plain : unasked e.checking e.start ≡ e.start
+  start_plain = ap (λ (h : Here). h.start) aside.begins ∙ start_here e []
+
+  -- so nobody was
+  pub start_nobody : NobodyAsked e.start
+  start_nobody = plain_nobody e.checking e.start start_plain
+
+  -- and its own row is read off
+  pub own_read : IsOwnRead e
+  own_read = sym (uncut_now e aside.uncut aside.plain) ∙ ap (λ (s : Seen). after s (row_of e e.own)) (sym start_plain)
+
+  module _ (checks : List (ReqId × OpenCheck)) (none : NoneChecked checks) (numbered : AreNumbered e.start) (checking : AreInCheck e.checking (log_of e [])) where
+    pub unasked_logged : IsLogged e checks
+    unasked_logged =
+        record {
+          uncut = aside.uncut;
+          undue = aside.undue;
+          read = own_read;
+          numbered = numbered;
+          checking = checking;
+          unheld = none_steps e.checking aside.unchecked (log_of e []);
+          asked = nobody_duly e.checking e.start (log_of e []) checks start_nobody (plain_nobody e.checking (log_of e []) (sym (aside.plain ∙ now_is e []))) checking.numbered checking.others aside.unchecked none;
+        }
+
+  -- and where the own row may be logged by itself
+  pub with_lawful : (checks : List (ReqId × OpenCheck)) → IsLogged e checks → LastsInLog e.checking (log_of e []) → AreLegal e [] → HasLogged e checks
+  with_lawful checks logged lasts legal =
+      record { logged = logged; lasts = lasts; lawful = lawful_pass (IsAhead None) e (noted_by checks []) [] (lawful_legal e [] legal); plain = aside.plain }
+
+-- ---- what lasts of the log, over an event's own row
+
+-- such a row makes no document state and gives none an entry
+leaves_own : (checking : ReqId → Bool) (s : Seen) (kind : RowKind) → leads kind ≡ true → LeavesStates checking s kind
+leaves_own checking s (rows.Accepted req doc what) is = tt
+leaves_own checking s (rows.Answered req stay) is = tt
+leaves_own checking s (rows.Evicted state) is = tt
+leaves_own checking s (rows.Delivered proc) is = tt
+leaves_own checking s _ is = absurd (let never : false ≡ true = is in cc)
+
+module _ (e : InEvent) (uncut : e.before ≡ []) (led : leads e.own ≡ true) (alive : (proc : ProcId) → e.own ≡ rows.Delivered proc → NoDeath (slice_get (desk_of e.start proc).reports 0)) (lasts : LastsInLog e.checking e.start) where
+  own_lasts : GoesDuly e.checking e.start e.own → LastsInLog e.checking (log_of e [])
+  own_lasts goes =
+      record { checks = checks; shows = own_under e uncut led alive lasts.shows; duly = own_duly e uncut led checks.numbered lasts.duly }
+    where
+      checks : AreInCheck e.checking (log_of e [])
+      checks = subst (λ (x : Seen). AreInCheck e.checking x) (sym (uncut_log e uncut)) (row_checks e.checking e.start (row_of e e.own) goes (leaves_own e.checking e.start e.own led) lasts.checks)
+
+  -- of a request that is accepted, which isn't in its check
+  pub accepted_lasts : (req : ReqId) (doc : Option DocId) (what : Request) → e.own ≡ rows.Accepted req doc what → req.0 ≡ length e.start.requests + 1 → e.checking req ≡ false → LastsInLog e.checking (log_of e [])
+  accepted_lasts req doc what own next outside =
+      own_lasts (subst (λ (k : RowKind). GoesDuly e.checking e.start k) (sym own) (record { next = next; outside = outside }))
+
+  -- of a report that is taken
+  pub delivered_lasts : (proc : ProcId) → e.own ≡ rows.Delivered proc → LastsInLog e.checking (log_of e [])
+  delivered_lasts proc own = own_lasts (subst (λ (k : RowKind). GoesDuly e.checking e.start k) (sym own) tt)
+
+  -- of an eviction
+  pub evicted_lasts : (state : StateId) → e.own ≡ rows.Evicted state → LastsInLog e.checking (log_of e [])
+  evicted_lasts state own = own_lasts (subst (λ (k : RowKind). GoesDuly e.checking e.start k) (sym own) tt)
+
+-- a refusal behind it
+pub refused_lasts : (e : InEvent) (req : ReqId) (reason : Denial) → LastsInLog e.checking (log_of e []) → LastsInLog e.checking (log_of e (rows.Refused req reason ∷ []))
+refused_lasts e req reason lasts =
+    subst (λ (x : Seen). LastsInLog e.checking x) (sym (log_more e [] (rows.Refused req reason))) (record {
+      checks = row_checks e.checking (log_of e []) (row_of e (rows.Refused req reason)) tt tt lasts.checks;
+      shows = refused_under (log_of e []) e.event e.actor req reason lasts.shows;
+      duly = row_duly (log_of e []) e.event e.actor lasts.duly (rows.Refused req reason) tt;
+    })
+
+-- ---- the own row may be logged
+
+-- a report is taken, where each request has passed its check
+pub delivered_legal : (e : InEvent) (proc : ProcId) (report : Report) → e.before ≡ [] → e.actor ≡ actors.Coord → e.own ≡ rows.Delivered proc → slice_get (desk_of e.start proc).reports 0 ≡ Some report → HavePassed e.start → AreLegal e []
+unfolding AreLegal
+delivered_legal e proc report uncut by_coord own first passed later rest =
+    uncut_pass e [] later uncut (subst (λ (r : LogRow). EachPass (start_of e) (r ∷ []) later) (sym its_row)
+    (delivered_may (start_of e) e.event proc report refl first none_settled later (subst (λ (r : LogRow). is_delivered_duly (point_at (start_of e) later) r ≡ true) its_row taken)))
+  where
+    taken : IsTakenIn e later
+    taken = subst (λ (l : List RowKind). IsTakenIn e ((map (row_of e) l ++ []) ++ later)) uncut rest.taken
+
+    its_row : row_of e e.own ≡ delivered_row e.event proc
+    its_row =
+        ap (λ (a : Actor). let r : LogRow = record { event = e.event; actor = a; row = e.own } in r) by_coord
+        ∙ ap (λ (k : RowKind). let r : LogRow = record { event = e.event; actor = actors.Coord; row = k } in r) own
+
+    none_settled : list_all (λ (q : Asked). not (is_settled_by e.start (after e.start (delivered_row e.event proc)) q)) e.start.requests ≡ true
+    none_settled = all_requests e.start.requests (λ (q : Asked). not (is_settled_by e.start (after e.start (delivered_row e.event proc)) q)) (λ req q at. settled_not q (passed req q at))
+      where
+        settled_not : (q : Asked) → has_passed e.start q ≡ true → not (is_settled_by e.start (after e.start (delivered_row e.event proc)) q) ≡ true
+        settled_not q is =
+            let settled : all_asked e.start q ≡ true = asked_all e.start q is in
+            ap (λ (b : Bool). not (not b && holds (all_asked (after e.start (delivered_row e.event proc))) (request_of (after e.start (delivered_row e.event proc)) q.nr))) settled
