@@ -1,9 +1,10 @@
 -- A document makes something of the first poke of its process, or the process refuses that: the coordinator has acted, which does nothing itself.
+use Rattle.tab_stands.proofs.PassedOn.{rows_slots}
 use Rattle.coord.proofs.Asides.{IsPlain, made_plain, off, one_goes, plain_more, refused_plain, start_lasts}
 use Rattle.coord.specs.Standing.{HasActed, IsOpenTo}
 use Rattle.coord.specs.declared.coordinator.Coordinator.{Coordinator}
 use Rattle.coord.proofs.Idle.{alone_acts, found_now, stands_then, telling_now}
-use Rattle.coord.proofs.Slots.{own_slots, rows_slots}
+use Rattle.coord.proofs.Slots.{own_slots}
 use Rattle.log_model.specs.AfterRequests.{is_running}
 use Rattle.log_model.specs.Seen.{Document, desk_of, document_of}
 use Rattle.log_model.specs.Views.{View, made_by, made_for}

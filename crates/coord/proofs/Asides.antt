@@ -1,4 +1,5 @@
 -- Nobody was asked so far: so it is once an event's own row was logged, and over rows more that ask nobody.
+use Rattle.tab_doors.proofs.Works.{start_here}
 use Rattle.seen_facts.proofs.Doc.Works.{HasNoSlot}
 use Rattle.seen_laws.proofs.Desks.{desk_on_same}
 use Rattle.log_model.specs.declared.outcome.Outcome.TheVariants as outcomes
@@ -141,7 +142,7 @@ module _ (e : InEvent) (c : Coordinator) (open_ : IsOpenIn e c) where
         }
 
     begins : seen_here e [] ≡ here_of e []
-    begins = λ i. record (here_of e []) { start = start_plain i; now = (now_is e [] ∙ read_own) i }
+    begins = λ i. record (here_of e []) { start = (start_plain ∙ sym (start_here e [])) i; now = (now_is e [] ∙ read_own) i }
 
     pub aside_own : StartsUnasked e
     aside_own = record { uncut = open_.uncut; undue = open_.undue; unchecked = off; begins = begins; plain = plain_own.same }
@@ -267,7 +268,7 @@ module _ (e : InEvent) (c : Coordinator) (open_ : IsOpenIn e c) where
     joined_goes made =
         record {
           seen = refl;
-          read = joined_seen e.checking (log_of e []) e.event e.actor proc made (desk_of s proc).reports order.job outcome None refl
+          read = joined_seen e.checking (log_of e []) e.event e.actor proc made (desk_of s proc).reports order.job outcome None (ap (λ (x : Seen). x.events) (uncut_log e open_.uncut))
               (ap (λ (x : Seen). x.just_finished) (uncut_log e open_.uncut) ∙ ap (λ (k : RowKind). (after s (row_of e k)).just_finished) own ∙ ap (λ (o : Option Order). option_map (λ (x : Order). x.job) o) hand)
               (ap (λ (x : Seen). (desk_of x proc).reports) (uncut_log e open_.uncut) ∙ ap (λ (k : RowKind). (desk_of (after s (row_of e k)) proc).reports) own ∙ reports_then)
               (hand_asks proc order hand);

@@ -1,4 +1,5 @@
 -- An order was done of which nothing was made, and which made no document: the tab may be brought to rest.
+use Rattle.tab_doors.specs.Working.{StartsPlain}
 use Rattle.tab_stands.proofs.Logged.{own_read}
 use Rattle.coord.proofs.Asides.{delivered_aside, seen_delivery, seen_room, seen_stands}
 use Rattle.log_model.specs.declared.row_kind.LogRow.{LogRow}
@@ -29,7 +30,7 @@ use Rattle.tab_stands.proofs.Ready.{ready}
 use Rattle.tab_stands.proofs.Shown.{nav_there, shown_begun}
 use Rattle.tab_stands.specs.Delivering.{IsQuietTask, IsSeenDelivery, IsShowTask}
 use Rattle.tab_stands.specs.PassedOn.{IsSoundTask, MayCause}
-use Rattle.tab_stands.specs.Standing.{HasBegun, HasLogged, IsOwnRead, StandsFor, StartsUnasked, seen_start}
+use Rattle.tab_stands.specs.Standing.{HasBegun, HasLogged, IsOwnRead, StandsFor, StartsUnasked, seen_start, none_in_check}
 use Rattle.log_model.specs.declared.job.Task.TheVariants as tasks
 use Rattle.log_model.specs.declared.job.Why.TheVariants as whys
 use Rattle.log_model.specs.declared.made.Report.TheVariants as reports
@@ -42,11 +43,12 @@ pub keep_now : (e : InEvent) (c : Coordinator) → IsOpenIn e c → c.tables.kep
 keep_now e c open_ = open_.stands.keep ∙ ap (λ (h : Header). h.keep) open_.header
 
 -- where an event has begun, and what it delivers is taken up, the tab may be brought to rest
-pub to_settle : (e : InEvent) (c : Coordinator) → c.header ≡ e.header → e.checking ≡ nobody → HasBegun (pass_of e []) c.tables c.queue c.blame.entries → (cause : Why) → MayCause (now_of e []) cause → ((later : List LogRow) → IsTakenIn e later) → AreFoundRunning (now_of e []) → AreTelling (now_of e []) → AreSlots (log_of e []) c.slots.entries → IsToSettle e [] c cause
-to_settle e c header unchecked begun cause may taken found telling slots =
+pub to_settle : (e : InEvent) (c : Coordinator) → c.header ≡ e.header → e.checking ≡ nobody → StartsPlain e → HasBegun (pass_of e []) c.tables c.queue c.blame.entries → (cause : Why) → MayCause (now_of e []) cause → ((later : List LogRow) → IsTakenIn e later) → AreFoundRunning (now_of e []) → AreTelling (now_of e []) → AreSlots (log_of e []) c.slots.entries → IsToSettle e [] c cause
+to_settle e c header unchecked starts begun cause may taken found telling slots =
     record {
       header = header;
       unchecked = unchecked;
+      starts = starts;
       ready = ready (pass_of e []) c.tables c.queue c.blame.entries begun refl cause may;
       makes = begun.makes;
       sound = begun.sound;
@@ -91,7 +93,7 @@ module _ (d : InDone) (c : Coordinator) (job : Job) (done : IsDone d c job) wher
 
   pub quiet_settles : IsQuietTask job.task → IsToSettle d.event [] c whys.Start
   quiet_settles quiet =
-      to_settle e c done.open_.header done.open_.unchecked (quiet_begun e d.proc job d.outcome done_seen c.tables c.queue c.blame.entries done_stands done_read quiet done_logged (seen_room e c done.open_) (keep_now e c done.open_)) whys.Start (for_none (now_of e [])) done_taken done_found done_telling done.slots
+      to_settle e c done.open_.header done.open_.unchecked done_logged.plain (quiet_begun e d.proc job d.outcome done_seen c.tables c.queue c.blame.entries done_stands done_read quiet done_logged (seen_room e c done.open_) (keep_now e c done.open_)) whys.Start (for_none (now_of e [])) done_taken done_found done_telling done.slots
 
   -- its document's navigable is there
   pub shown_there : (nav : NavId) → nav_in c.tables.whose.entries job.doc ≡ Some nav → IsSome (node_of nav c.tables.tree)
@@ -100,7 +102,7 @@ module _ (d : InDone) (c : Coordinator) (job : Job) (done : IsDone d c job) wher
 
   pub shown_settles : IsShowTask job.task → (u : Tables) → u ≡ record c.tables { tree = shown_tree c.tables job.doc job.nr } → IsToSettle d.event [] (record c { tables = u }) whys.Start
   shown_settles shows u is =
-      to_settle e (record c { tables = u }) done.open_.header done.open_.unchecked (shown_begun e d.proc job d.outcome done_seen c.tables c.queue c.blame.entries done_stands done_read shows done_logged (seen_room e c done.open_) (keep_now e c done.open_) u is) whys.Start (for_none (now_of e [])) done_taken done_found done_telling done.slots
+      to_settle e (record c { tables = u }) done.open_.header done.open_.unchecked done_logged.plain (shown_begun e d.proc job d.outcome done_seen c.tables c.queue c.blame.entries done_stands done_read shows done_logged (seen_room e c done.open_) (keep_now e c done.open_) u is) whys.Start (for_none (now_of e [])) done_taken done_found done_telling done.slots
 
   -- no order asks anybody
   pub no_ask : (slot : ℕ) (cause : LeaveCause) → job.task ≡ tasks.Ask slot cause → ⊥

@@ -1,4 +1,6 @@
 -- The tab has come to rest, and the event ends.
+use Rattle.std.specs.Prelude.{is_some, slice_get}
+use Rattle.log_model.specs.Orders.{Question, due_questions}
 use Rattle.tab_doors.proofs.PassedOn.{none_before}
 use Rattle.tab_doors.proofs.Works.{plain_now}
 use Rattle.seen_laws.proofs.InEvents.{now_is, later_more}
@@ -16,15 +18,14 @@ use Rattle.log_model.specs.declared.row_kind.LogRow.{LogRow}
 use Rattle.log_model.specs.declared.row_kind.RowKind.{RowKind}
 use Rattle.tab_facts.specs.Order.Orders.{IsOfCoord}
 use Rattle.seen_laws.specs.InEvent.{InEvent, IsTakenIn, log_of, now_of, row_of, later_of}
-use Rattle.std.proofs.Common.{Bool, List, [], ap, false, inl, inr, map, subst, sym, ℕ, ◌∙◌, ◌≡◌, ◌⊎◌}
+use Rattle.std.proofs.Common.{Bool, List, [], ap, false, inl, inr, map, subst, sym, ℕ, ◌∙◌, ◌≡◌, ◌⊎◌, Some, true}
 use Rattle.tab_loads.specs.Loading.{pass_of}
 use Rattle.tab_stands.proofs.Ended.{acted}
-use Rattle.tab_stands.proofs.PassedOn.{IsNoneDue, leaves_unsettled, put_makes, put_sound}
+use Rattle.tab_stands.proofs.PassedOn.{IsNoneDue, leaves_unsettled, put_makes, put_sound, none_asked, put_slots}
 use Rattle.tab_stands.proofs.Placing.{either_of}
-use Rattle.tab_stands.specs.PassedOn.{HasPut, HasSettled, LeavesOff}
+use Rattle.tab_stands.specs.PassedOn.{HasPut, HasSettled, LeavesOff, IsOver}
 use Rattle.tab_stands.specs.Standing as tab
 use Rattle.coord.proofs.Fragments.{put_found, put_telling}
-use Rattle.coord.proofs.Slots.{put_slots}
 use Rattle.slot_facts.specs.Slots.{AreSlots}
 use Rattle.tab_ids.specs.declared.DocId.{DocId}
 
@@ -42,7 +43,7 @@ of_coord e was out put first row has =
     by_part (inl there) = first row there
     by_part (inr there) = put.each row there
 
-pub settled_acts : (e : InEvent) (was out : List RowKind) (c after : Coordinator) (cause last : Why) → IsToSettle e was c cause → after.header ≡ c.header → after.slots.entries ≡ c.slots.entries → HasSettled (pass_of e []) out after.tables after.queue after.blame.entries last → IsNoneDue (now_of e out) after.tables.running after.queue.waiting → HasPut e was out → LeavesOff e was out → HasActed e out after
+pub settled_acts : (e : InEvent) (was out : List RowKind) (c after : Coordinator) (cause last : Why) → IsToSettle e was c cause → after.header ≡ c.header → after.slots.entries ≡ c.slots.entries → HasSettled (pass_of e []) out after.tables after.queue after.blame.entries last → IsOver e out after.tables.running after.queue.waiting → HasPut e was out → LeavesOff e was out → HasActed e out after
 settled_acts e was out c after cause last to header slots at due put left =
     record {
       stands = record {
@@ -74,8 +75,16 @@ settled_acts e was out c after cause last to header slots at due put left =
 
     -- nobody was asked so far
     plain_out : log_of e out ≡ now_of e out
-    plain_out = plain_now e out at.passing.work.goes at.queueing.turning.plain
+    plain_out = plain_now e out at.passing.work.goes to.starts
+
+    -- as nobody has a handler, none is to be asked
+    none_due : IsOver e out after.tables.running after.queue.waiting → IsNoneDue (now_of e out) after.tables.running after.queue.waiting
+    none_due (inl none) = none
+    none_due (inr asks) =
+        let nobody_due : due_questions (log_of e out) asks.first.q.what (Some asks.first.goal) ≡ [] = subst (λ (x : Seen). due_questions x asks.first.q.what (Some asks.first.goal) ≡ []) (sym plain_out) (none_asked (now_of e out) at.passing.going.tab.docs asks.first.q.what (Some asks.first.goal)) in
+        let never : false ≡ true = sym (ap (λ (l : List Question). is_some (slice_get l 0)) nobody_due) ∙ asks.first.asks in
+        absurd cc
 
     all : tab.HasActed tab.none_in_check e out after.tables after.queue after.blame.entries
     all =
-        acted (pass_of e []) out after.tables after.queue after.blame.entries last false (λ never. absurd cc) at (put_makes e after.tables.running was out at.passing.work.goes at.passing.going.tab.asked put to.makes) (put_sound e was out at.passing.work.goes put to.sound) (of_coord e was out put to.coord) to.shows (λ free. due) (taken_in e was out put to.taken)
+        acted (pass_of e []) out after.tables after.queue after.blame.entries last false (λ never. absurd cc) at (put_makes e after.tables.running was out at.passing.work.goes at.passing.going.tab.asked put to.makes) (put_sound e was out at.passing.work.goes put to.sound) (of_coord e was out put to.coord) to.shows to.starts (λ free. none_due due) (taken_in e was out put to.taken)

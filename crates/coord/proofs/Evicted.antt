@@ -1,11 +1,12 @@
 -- The document that is kept longest was discarded as the user evicts it, with those below it: the tab may be brought to rest.
+use Rattle.tab_stands.proofs.PassedOn.{rows_slots}
 use Rattle.load_doors.specs.Logged.{IsLogged}
 use Rattle.tab_stands.proofs.Logged.{evicted_lasts, own_read, unasked_logged}
 use Rattle.tab_stands.specs.Standing.{LastsInLog, StartsUnasked, seen_start}
 use Rattle.coord.proofs.Asides.{evicted_aside, seen_stands, start_lasts}
 use Rattle.tab_doors.proofs.Uncut.{uncut_now}
 use Rattle.coord.proofs.Fines.{IsFine, fine_discard, fine_moves, makes_over, sound_over}
-use Rattle.coord.proofs.Slots.{own_slots, rows_slots}
+use Rattle.coord.proofs.Slots.{own_slots}
 use Rattle.coord.specs.Evicting.{longest_in}
 use Rattle.coord.specs.Standing.{IsOpenTo, IsToSettle, StandsFor}
 use Rattle.coord.specs.declared.coordinator.Coordinator.{Coordinator}
@@ -119,6 +120,7 @@ module _ (e : InEvent) (state : StateId) (c : Coordinator) (open_ : IsOpenTo e c
         record {
           header = header ∙ open_.in_.header;
           unchecked = open_.in_.unchecked;
+          starts = aside.plain;
           ready =
               subst (λ (l : List (StateId × ReqId)). IsReady (pass_of e []) out after.tables after.queue l whys.Evict) (sym noted)
               (subst (λ (q : Queue). IsReady (pass_of e []) out after.tables q c.blame.entries whys.Evict) (sym queue)

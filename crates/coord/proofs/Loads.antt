@@ -7,7 +7,7 @@ use Rattle.seen_laws.specs.Unasked.{is_question}
 use Rattle.coord.proofs.Asides.{accepted_aside, one_goes, seen_stands}
 use Rattle.coord.proofs.Fines.{IsFine, fine_fragment, fine_moves, fine_populate, makes_over, more_fine, no_job, one_fine, sound_over}
 use Rattle.coord.specs.Standing.{IsAsk, IsOpenTo, IsToSettle, MoveNobody}
-use Rattle.coord.proofs.Slots.{own_slots, rows_slots}
+use Rattle.coord.proofs.Slots.{own_slots}
 use Rattle.coord.specs.declared.ask.Ask.TheVariants as asks
 use Rattle.coord.specs.declared.coordinator.Coordinator.{Coordinator}
 use Rattle.seen_facts.specs.Hang.Members.{Has}
@@ -38,7 +38,7 @@ use Rattle.tab_loads.specs.declared.loaded.Loaded.TheVariants.{Begun, CutOff, Re
 use Rattle.tab_stands.proofs.Accepting.{comes_now, new, now, takes_none, there_now}
 use Rattle.tab_stands.proofs.Coming.{IsComing}
 use Rattle.tab_stands.proofs.Orders.{keeps_coming, makes_first, sound_first}
-use Rattle.tab_stands.proofs.PassedOn.{KeepsWhat, sent_homes}
+use Rattle.tab_stands.proofs.PassedOn.{KeepsWhat, sent_homes, rows_slots}
 use Rattle.tab_stands.specs.Offs.{AreShownUnder}
 use Rattle.tab_stands.specs.PassedOn.{Ends, EndsAlone, HasPut, IsOfItsLoad, IsReady, IsTab, MakesServe, OrdersAreSound}
 use Rattle.tab_stands.specs.Standing.{IsTakenUp, LastsInLog, StandsFor, none_in_check, seen_start}
@@ -237,6 +237,7 @@ module _ (e : InEvent) (c : Coordinator) (open_ : IsOpenTo e c) (req : ReqId) (n
       record {
         header = header ∙ open_.in_.header;
         unchecked = open_.in_.unchecked;
+        starts = load_asks.aside.plain;
         ready = subst (λ (w : Why). IsReady (pass_of e []) out after.tables after.queue after.blame.entries w) (sym is) ready;
         makes = load_makes e c.tables c.queue c.blame.entries (seen_stands e c open_.in_) req nav mode address load_asks load_lasts out after.tables after.blame.entries loaded came after.queue ready;
         sound = load_sound e c.tables c.queue c.blame.entries (seen_stands e c open_.in_) req nav mode address load_asks load_lasts out after.tables after.blame.entries loaded came after.queue ready;

@@ -4,7 +4,6 @@ use Rattle.coord.proofs.Asides.{delivered_aside, seen_delivery, seen_room, seen_
 use Rattle.coord.proofs.Causes.{for_none}
 use Rattle.coord.proofs.Dones.{keep_now, to_settle}
 use Rattle.coord.proofs.Loads.{ended_put}
-use Rattle.coord.proofs.Slots.{put_slots}
 use Rattle.coord.specs.Delivering.{InDelivery, IsMade}
 use Rattle.coord.specs.Standing.{IsOpenIn, IsToSettle, MoveNobody}
 use Rattle.coord.specs.declared.coordinator.Coordinator.{Coordinator}
@@ -32,7 +31,7 @@ use Rattle.tab_loads.specs.Loading.{pass_of}
 use Rattle.tab_stands.proofs.Hands.{hand_begun, joined_begun, parked_begun}
 use Rattle.tab_stands.proofs.Mades.{held_takes, of_own, went_takes}
 use Rattle.tab_stands.proofs.Parks.{has_node, judged_free, parks_held}
-use Rattle.tab_stands.proofs.PassedOn.{put_makes, put_sound, taken_moves}
+use Rattle.tab_stands.proofs.PassedOn.{put_makes, put_sound, taken_moves, put_slots}
 use Rattle.tab_stands.proofs.Reports.{told_fine}
 use Rattle.tab_stands.proofs.Taken.{taken_ready, taken_up}
 use Rattle.tab_stands.proofs.Taking.{changes_no_go, hand_to_take}
@@ -76,7 +75,7 @@ module _ (d : InDelivery) (c : Coordinator) (made : Made) (its : IsMade d c made
 
   pub joined_settles : (delta : ℤ) → made.what ≡ whats.Go delta → (left : Queue) → left ≡ record c.queue { waiting = c.queue.waiting ++ Traverse made.req delta ∷ [] } → IsToSettle d.event [] (record c { queue = left }) whys.Start
   joined_settles delta goes left pushed =
-      to_settle e (record c { queue = left }) its.open_.header its.open_.unchecked (joined_begun e d.proc d.report made heard its.tells c.tables c.queue c.blame.entries stands aside delta goes logged room (keep_now e c its.open_) left pushed) whys.Start (for_none (now_of e []))
+      to_settle e (record c { queue = left }) its.open_.header its.open_.unchecked logged.plain (joined_begun e d.proc d.report made heard its.tells c.tables c.queue c.blame.entries stands aside delta goes logged room (keep_now e c its.open_) left pushed) whys.Start (for_none (now_of e []))
       (went_takes e d.proc d.report made heard its.tells c.tables c.queue c.blame.entries stands aside delta goes) found_now telling_now its.slots
 
   -- ---- a change
@@ -94,7 +93,7 @@ module _ (d : InDelivery) (c : Coordinator) (made : Made) (its : IsMade d c made
 
       pub parked_settles : (left : Queue) → left ≡ record c.queue { parked = c.queue.parked ++ made ∷ [] } → IsToSettle d.event [] (record c { queue = left }) whys.Start
       parked_settles left parked =
-          to_settle e (record c { queue = left }) its.open_.header its.open_.unchecked (parked_begun e d.proc d.report made heard its.tells c.tables c.queue c.blame.entries stands aside (changes_no_go made.what changes) held logged room (keep_now e c its.open_) left parked) whys.Start (for_none (now_of e []))
+          to_settle e (record c { queue = left }) its.open_.header its.open_.unchecked logged.plain (parked_begun e d.proc d.report made heard its.tells c.tables c.queue c.blame.entries stands aside (changes_no_go made.what changes) held logged room (keep_now e c its.open_) left parked) whys.Start (for_none (now_of e []))
           (held_takes e d.proc d.report made heard its.tells c.tables c.queue c.blame.entries stands aside held) found_now telling_now its.slots
 
     -- it doesn't
@@ -137,6 +136,7 @@ module _ (d : InDelivery) (c : Coordinator) (made : Made) (its : IsMade d c made
             record {
               header = header ∙ its.open_.header;
               unchecked = its.open_.unchecked;
+              starts = logged.plain;
               ready =
                   subst (λ (l : List (StateId × ReqId)). IsReady (pass_of d.event []) out after.tables after.queue l (whys.Req made.req)) (sym blame)
                   (subst (λ (q : Queue). IsReady (pass_of d.event []) out after.tables q noted (whys.Req made.req)) (sym queue)

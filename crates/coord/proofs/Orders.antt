@@ -1,10 +1,11 @@
 -- A process takes up an order, or finishes one: the coordinator has acted, which does nothing itself.
+use Rattle.tab_stands.proofs.PassedOn.{row_slots}
 use Rattle.coord.proofs.Asides.{finished_plain, joined_goes, joined_plain, one_goes, start_lasts, taken_plain}
 use Rattle.tab_doors.proofs.Uncut.{uncut_now}
 use Rattle.coord.specs.Standing.{HasActed, IsOpenTo}
 use Rattle.coord.specs.declared.coordinator.Coordinator.{Coordinator}
 use Rattle.coord.proofs.Idle.{alone_acts, found_now, idle_acts}
-use Rattle.coord.proofs.Slots.{finished_own, own_slots, row_slots}
+use Rattle.coord.proofs.Slots.{finished_own, own_slots}
 use Rattle.seen_facts.proofs.Coord.Unread.{next}
 use Rattle.seen_facts.specs.Desk.Own.{IsFragmentTask}
 use Rattle.seen_facts.proofs.Doc.Works.{HasNoSlot}

@@ -1,4 +1,5 @@
 -- A poke is accepted by the document that it reaches, or refused at once: the coordinator has acted, which does nothing itself.
+use Rattle.tab_stands.proofs.PassedOn.{rows_slots}
 use Rattle.tab_doors.proofs.Uncut.{uncut_pass}
 use Rattle.log_model.specs.Seen.{Seen}
 use Rattle.coord.proofs.Fragments.{accepted_log}
@@ -11,7 +12,7 @@ use Rattle.coord.proofs.Asides.{IsPlain, accepted_aside, accepted_plain, one_goe
 use Rattle.coord.specs.Standing.{HasActed, IsOpenTo}
 use Rattle.coord.specs.declared.coordinator.Coordinator.{Coordinator}
 use Rattle.coord.proofs.Idle.{alone_acts, found_now, idle_acts, telling_now}
-use Rattle.coord.proofs.Slots.{own_slots, rows_slots}
+use Rattle.coord.proofs.Slots.{own_slots}
 use Rattle.seen_facts.specs.Hang.Members.{Has}
 use Rattle.log_model.specs.Causes.{denial_of_poke}
 use Rattle.log_model.specs.declared.outcome.Denial.{Denial}
@@ -20,7 +21,7 @@ use Rattle.log_model.specs.declared.row_kind.RowKind.{RowKind}
 use Rattle.tab_facts.specs.Order.Orders.{IsOfCoord}
 use Rattle.tab_facts.proofs.Running.Over.{running_over}
 use Rattle.tab_facts.proofs.Running.Tells.{telling_over}
-use Rattle.seen_laws.specs.InEvent.{EachGoes, InEvent, log_of}
+use Rattle.seen_laws.specs.InEvent.{EachGoes, InEvent, log_of, now_of}
 use Rattle.std.proofs.Common.{None, Some, [], inl, inr, length, subst, ◌+◌, ◌∷◌, ◌≡◌, sym, refl, false}
 use Rattle.tab_ids.specs.declared.DocId.{DocId}
 use Rattle.tab_ids.specs.declared.NavId.{NavId}

@@ -4,7 +4,6 @@ use Rattle.unasked.proofs.Nows.{sent_goes}
 use Rattle.coord.proofs.Dones.{done_found, done_logged, done_read, done_seen, done_stands, done_taken, done_telling}
 use Rattle.coord.proofs.Fines.{IsFine, fine_discard, fine_moves, makes_over, one_fine, sound_over}
 use Rattle.coord.proofs.Placed.{Makes, makes_of}
-use Rattle.coord.proofs.Slots.{rows_slots}
 use Rattle.coord.specs.Delivering.{InDone, IsDone, made_in}
 use Rattle.coord.specs.Standing.{IsToSettle}
 use Rattle.coord.specs.declared.coordinator.Coordinator.{Coordinator}
@@ -27,7 +26,7 @@ use Rattle.tab_ids.specs.declared.StateId.{StateId}
 use Rattle.tab_loads.specs.Loading.{pass_of}
 use Rattle.tab_stands.proofs.Dones.{AsksNone, did, did_now, did_requests}
 use Rattle.tab_stands.proofs.Orders.{makes_first, sound_first}
-use Rattle.tab_stands.proofs.PassedOn.{KeepsWhat, serve_on}
+use Rattle.tab_stands.proofs.PassedOn.{KeepsWhat, serve_on, rows_slots}
 use Rattle.tab_stands.proofs.Placed.{made_then}
 use Rattle.tab_stands.proofs.Reports.{told_causes}
 use Rattle.tab_stands.proofs.Unmade.{made_at}
@@ -147,6 +146,7 @@ module _ (d : InDone) (c : Coordinator) (job : Job) (done : IsDone d c job) (sta
         record {
           header = header ∙ done.open_.header;
           unchecked = done.open_.unchecked;
+          starts = (done_logged d c job done).plain;
           ready =
               subst (λ (l : List (StateId × ReqId)). IsReady (pass_of e []) out after.tables after.queue l whys.Start) (sym noted)
               (subst (λ (q : Queue). IsReady (pass_of e []) out after.tables q c.blame.entries whys.Start) (sym queue)

@@ -37,6 +37,7 @@ impl Coordinator {
             &mut self.tables,
             &mut self.queue,
             &mut self.blame,
+            &self.slots,
             out,
             &mut reasons,
             false,

@@ -55,6 +55,15 @@ impl MoveQueue {
         self.steps.pop_front()
     }
 
+    /// Puts a step back at the front of the queue.
+    pub fn put_back(&mut self, step: QueueStep) -> Result<(), OutOfMemory>
+        ensures ok { OnOk result (self.new ≡ record self.old { waiting = step ∷ self.old.waiting }) }
+        ensures err { OnErr result (self.new ≡ self.old) }
+    {
+        self.steps.push_front(step)?;
+        Ok(())
+    }
+
     /// Whether a step waits.
     pub fn has_next(&self) -> bool
         ensures { result ≡ is_some (slice_get self.now.waiting 0) }

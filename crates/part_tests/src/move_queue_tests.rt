@@ -5,8 +5,10 @@ use std::alloc::{AllocError, Global};
 use std::test::*;
 use tab_ids::{DocId, Epoch, NavId, ReqId};
 
-// Calls and their answers, for requests 1 to 4: t, r and l push a traversal, a reload and a ready load; n is next, w withdraws, p parks, u unparks.
-const RUNS: [(&str, &str); 33] = [
+// Calls and their answers, for requests 1 to 4: t, r and l push a traversal, a reload and a ready load; b puts a traversal back; n is next, w withdraws, p parks, u unparks.
+const RUNS: [(&str, &str); 35] = [
+    ("t1 b2 n n n", "t2 t1 -"),
+    ("b1 b2 r3 w1 n b4 n n n", "yes t2 t4 r3 -"),
     ("t1 r2 n n n", "t1 r2 -"),
     (
         "w4 r2 t1 r2 u w1 p4 p4 u w1 u n n n u",
@@ -162,6 +164,7 @@ fn answer(alloc: Global, queue: &mut MoveQueue, call: &str) -> Result<String, Fa
         Some(b't') => queue.push(QueueStep::Traverse(req, -1))?,
         Some(b'r') => queue.push(QueueStep::Reload(req, NavId(0)))?,
         Some(b'l') => queue.push(QueueStep::Ready(req, NavId(0)))?,
+        Some(b'b') => queue.put_back(QueueStep::Traverse(req, -1))?,
         Some(b'p') => queue.park(Made {
             req,
             doc: DocId(1),

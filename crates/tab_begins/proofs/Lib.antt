@@ -13,3 +13,4 @@ pub mod InNeed
 pub mod Nexts
 pub mod Stood
 pub mod PassedOn
+pub mod Asks

@@ -22,7 +22,6 @@ turning_passed e out more left turning =
       early = λ req q joined at. (let w = was req q at in
           subst (λ (x : Request). denial_at_acceptance e.start x ≡ None ⊎ (nat_lt (length e.start.requests) req.0 ≡ false)) w.2
           (turning.early req w.0 (ap (λ (l : List ReqId). has_req l req) (sym left.joined) ∙ joined) w.1));
-      plain = turning.plain;
     }
   where
     was : (req : ReqId) (q : Asked) → request_of (now_of e more) req ≡ Some q → (p : Asked) × (request_in (now_of e out).requests req ≡ Some p) × (p.what ≡ q.what)

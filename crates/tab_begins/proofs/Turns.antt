@@ -46,7 +46,7 @@ use Rattle.tab_ids.specs.declared.NavId.{NavId}
 use Rattle.tab_ids.specs.declared.ReqId.{ReqId}
 use Rattle.tab_ids.specs.declared.StateId.{StateId}
 use Rattle.tab_one_pass.proofs.Gives.{show_causes}
-use Rattle.tab_applies.specs.PassedOn.{HasGone, IsFirst, IsTurning, WentTo}
+use Rattle.tab_applies.specs.PassedOn.{HasGone, IsFirst, IsTurning, MayGoUnasked, WentTo}
 use Rattle.log_model.specs.declared.job.Why.TheVariants as whys
 use Rattle.log_model.specs.declared.outcome.Denial.TheVariants as denials
 use Rattle.log_model.specs.declared.row_kind.RowKind.TheVariants as rows
@@ -84,6 +84,12 @@ module _ (p : InPass) (out : List RowKind) (t : Tables) (passing : IsPassing p o
     traverse_asks =
         let first : IsFirst s req given = subst (λ (d : ℤ). IsFirst s req d) (sym same) (ahead s req delta (filter is_traverse rest) its_queue.traversals).0 in
         (passing, (turning, (rests.idle, (first, (stand, (none, rests.passed))))))
+
+    -- where it asks nobody it may have it
+    pub traverse_goes : MayGoUnasked p.event out req given → IsPassing p out t × (IsTurning p.event out × ((t.running ≡ None) × (IsFirst s req given × ((all_stand s s.history.current ≡ true) × ((s.parked ≡ []) × (HasPassed p.event s × MayGoUnasked p.event out req given))))))
+    traverse_goes unasked =
+        let its = traverse_asks in
+        (passing, (turning, (rests.idle, (its.1.1.1.0, (stand, (none, (rests.passed, unasked)))))))
 
     pub traverse_queue : (more : List RowKind) (u : Tables) → HasGone p.event out more t u req given → AreOldLoads s (now_of p.event more) → HasQueue (now_of p.event more) u.running rest
     traverse_queue more u gone were =

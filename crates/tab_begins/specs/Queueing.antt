@@ -10,16 +10,21 @@ use Rattle.log_model.specs.ActsAtOnce.{is_ready_load}
 use Rattle.log_model.specs.After.{is_load_request}
 use Rattle.log_model.specs.Causes.{nav_of_change}
 use Rattle.log_model.specs.Equal.{holds}
-use Rattle.log_model.specs.Once.{delta_of, loads}
+use Rattle.leave_questions.specs.Questions.{traverse_questions}
+use Rattle.log_model.specs.Once.{delta_of, loads, step_at_delta}
+use Rattle.log_model.specs.Orders.{Question, due_questions}
+use Rattle.step_index.specs.Held.{history_held}
+use Rattle.tab_applies.specs.PassedOn.{step_by}
+use Rattle.tab_ids.specs.declared.DocId.{DocId}
 use Rattle.log_model.specs.Places.{all_stand}
 use Rattle.log_model.specs.Seen.{Asked, Seen, request_in, request_of}
 use Rattle.move_queue.specs.declared.queue_step.QueueStep.{QueueStep}
 use Rattle.move_queue.specs.declared.queue_step.QueueStep.TheVariants.{Ready, Reload, Traverse}
 use Rattle.seen_facts.proofs.Request.Readers.{SameReads}
-use Rattle.seen_laws.specs.InEvent.{InEvent, now_of}
-use Rattle.std.specs.Prelude.{Bool, List, None, Option, Some, [], false, filter, length, option_and_then, true, ℤ, ◌++◌, ◌&&◌, ◌<◌, ◌==◌, ◌∷◌, ◌≡◌, ◌⊎◌}
+use Rattle.seen_laws.specs.InEvent.{InEvent, log_of, now_of}
+use Rattle.std.specs.Prelude.{Bool, List, None, Option, Some, [], false, filter, is_some, length, option_and_then, slice_get, true, ℕ, ℤ, ◌++◌, ◌&&◌, ◌<◌, ◌==◌, ◌∷◌, ◌≡◌, ◌⊎◌}
 use Rattle.tab_begins.specs.declared.turn.Turn.{Turn}
-use Rattle.tab_begins.specs.declared.turn.Turn.TheVariants.{Rests, Refused, Went}
+use Rattle.tab_begins.specs.declared.turn.Turn.TheVariants.{Asks, Rests, Refused, Went}
 use Rattle.log_model.specs.declared.change.Change.{Change}
 use Rattle.log_model.specs.declared.job.Why.{Why}
 use Rattle.log_model.specs.declared.row_kind.RowKind.{RowKind}
@@ -190,6 +195,33 @@ pub record HasRested (e : InEvent) (t u : Tables) (was blame : List (StateId × 
   pub noted : blame ≡ was
   pub why : (all_stand (now_of e old) (now_of e old).history.current ≡ false) ⊎ (waiting ≡ [])
 
+-- whom a traversal by the delta asks, as the tables tell: nobody where it leads nowhere
+abbrev pub asked_by : List (DocId × ℕ) → Tables → ℤ → List Question
+asked_by slots t delta =
+    option_map_or (λ (step : ℕ). traverse_questions slots (history_held t.store).rows step t.tree) (step_by (history_held t.store) delta) []
+
+-- some are asked
+abbrev pub are_asked_by : List (DocId × ℕ) → Tables → ℤ → Bool
+are_asked_by slots t delta = is_some (slice_get (asked_by slots t delta) 0)
+
+-- a traversal's step is the first that waits, and as it begins it is to ask somebody in the log itself, to go to the step that its delta leads to
+pub record IsToAsk (e : InEvent) (out : List RowKind) (waiting : List QueueStep) (req : ReqId) : Type 0 where
+  pub delta : ℤ
+  pub rest : List QueueStep
+  pub front : waiting ≡ Traverse req delta ∷ rest
+  pub goal : Step
+  pub there : step_at_delta (now_of e out) delta ≡ Some goal.0
+  pub q : Asked
+  pub at : request_of (log_of e out) req ≡ Some q
+  pub asks : is_some (slice_get (due_questions (log_of e out) q.what (Some goal)) 0) ≡ true
+
+-- so it is, and nothing was done
+pub record WaitsToAsk (e : InEvent) (t u : Tables) (was blame : List (StateId × ReqId)) (old new : List RowKind) (waiting : List QueueStep) (req : ReqId) : Type 0 where
+  pub out : new ≡ old
+  pub tables : u ≡ t
+  pub noted : blame ≡ was
+  pub first : IsToAsk e old waiting req
+
 -- the request was applied by the next row
 pub record IsAppliedNext (old new : List RowKind) (req : ReqId) : Type 0 where
   pub change : Change
@@ -201,19 +233,22 @@ abbrev pub HadTurn : List RowKind → List RowKind → ReqId → Option ReqId �
 HadTurn old new req None = IsAppliedNext old new req
 HadTurn old new req (Some run) = run ≡ req
 
--- where a step had its turn, all stood at the current step
+-- where a step had its turn, or waits to ask, all stood at the current step
 abbrev pub HasStood : Seen → Turn → Type 0
 HasStood s Rests = Unit {0}
+HasStood s (Asks req) = all_stand s s.history.current ≡ true
 HasStood s Refused = all_stand s s.history.current ≡ true
 HasStood s (Went req) = all_stand s s.history.current ≡ true
 
--- what the turn came to: nothing was done; or a traversal was refused, and all is as after a pass; or the request whose turn it was has begun or was applied, so that a pass may follow for it
+-- what the turn came to: nothing was done; or the traversal whose turn it is waits to ask; or a traversal was refused, and all is as after a pass; or the request whose turn it was has begun or was applied, so that a pass may follow for it
 abbrev pub CameTo : InEvent → Tables → Tables → List (StateId × ReqId) → List (StateId × ReqId) → List RowKind → List RowKind → List QueueStep → Turn → Type 0
 CameTo e t u was blame old new waiting Rests = HasRested e t u was blame old new waiting
+CameTo e t u was blame old new waiting (Asks req) = WaitsToAsk e t u was blame old new waiting req
 CameTo e t u was blame old new waiting Refused = IsAtRest e u.running blame (now_of e new) × IsPassedOver (now_of e old) (now_of e new)
 CameTo e t u was blame old new waiting (Went req) = HadTurn old new req u.running × MayFollow e u.running blame req (now_of e new)
 
 -- where a step had its turn, fewer wait
 abbrev pub FewerWait : List QueueStep → List QueueStep → Turn → Type 0
 FewerWait old new Rests = Unit {0}
+FewerWait old new (Asks req) = Unit {0}
 FewerWait old new _ = length new < length old

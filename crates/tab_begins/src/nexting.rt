@@ -1,13 +1,14 @@
 //! The next step of the queue has its turn, where one may.
 ghost use Rattle.std.specs.Prelude.{◌≡◌, [], None, OnOk, IfOk, IfNone, IfSome};
-ghost use Rattle.seen_laws.specs.InEvent.{now_of};
+ghost use Rattle.leave_questions.specs.Questions.{HasSlots};
+ghost use Rattle.seen_laws.specs.InEvent.{log_of, now_of};
 ghost use Rattle.tab_begins.specs.Queueing.{AreUndue, CameTo, FewerWait, HasGrown, HasQueue, HasStood, IsAtRest, IsFirstDue, LeavesInNeed, is_due_in, is_ready_in, is_there};
 ghost use Rattle.tab_begins.specs.Taking.{KeepsMade};
 ghost use Rattle.tab_one_pass.specs.PassedOn.{InPass, IsPassing};
 ghost use Rattle.tab_applies.specs.PassedOn.{IsTurning};
 
 use crate::taking::take_load;
-use crate::traversing::take_traversal;
+use crate::traversing::{asks_somebody, take_traversal};
 use crate::turn::Turn;
 use address::OutOfMemory;
 use entry_store::Store;
@@ -17,7 +18,7 @@ use log_model::Out;
 use move_queue::{MoveQueue, QueueStep};
 use std::alloc::Global;
 use tab_doors::Tables;
-use tab_ids::{NavId, ReqId, StateId};
+use tab_ids::{DocId, NavId, ReqId, StateId};
 use tab_turns::stand_at;
 
 /// Whether a load's document is there.
@@ -65,12 +66,13 @@ fn next_due(queue: &mut MoveQueue, loads: &LoadTable) -> Option<QueueStep>
     None
 }
 
-/// Where all stand at the current step, the first step of the queue that is due has its turn: a traversal begins, or is refused, and a ready load is applied. No traversal runs, and nothing is held back. In `blame` a request is noted under the state of each document that is stray then. HTML Standard, "session history traversal queue".
+/// Where all stand at the current step, the first step of the queue that is due has its turn: a traversal begins, or is refused, and a ready load is applied. A traversal that asks somebody before it begins waits on, and nothing is done. `slots` has the slots of the unload handlers. No traversal runs, and nothing is held back. In `blame` a request is noted under the state of each document that is stray then. HTML Standard, "session history traversal queue".
 pub fn begin_next(
     alloc: Global,
     tables: &mut Tables,
     queue: &mut MoveQueue,
     blame: &mut IndexMap<StateId, ReqId>,
+    slots: &IndexMap<DocId, u8>,
     out: &mut Out,
 ) -> Result<Turn, OutOfMemory>
     ghost p: { InPass }
@@ -79,6 +81,7 @@ pub fn begin_next(
     requires none { (now_of p.event out.old).parked ≡ [] }
     requires rest { IsAtRest p.event tables.old.running blame.old.entries (now_of p.event out.old) }
     requires queued { HasQueue (now_of p.event out.old) None queue.old.waiting }
+    requires slots { HasSlots (log_of p.event out.old) slots.now.entries }
     ensures passing { OnOk result (IsPassing p out.new tables.new) }
     ensures turning { OnOk result (IsTurning p.event out.new) }
     ensures none { OnOk result ((now_of p.event out.new).parked ≡ []) }
@@ -101,6 +104,10 @@ pub fn begin_next(
     };
     match step {
         QueueStep::Traverse(req, delta) => {
+            if asks_somebody(alloc, tables, slots, delta)? {
+                queue.put_back(step)?;
+                return Ok(Turn::Asks(req));
+            }
             take_traversal(tables, out, req, delta)?;
             match tables.running {
                 Some(run) => Ok(Turn::Went(run)),

@@ -8,6 +8,8 @@ pub enum Turn {
     Rests,
     /// A traversal was refused, since its delta leads nowhere.
     Refused,
+    /// Nothing was done: the traversal whose turn it is asks somebody before it begins, and waits on, first of all.
+    Asks(ReqId),
     /// The request, a traversal, has begun, or, a load, was applied: what follows is for it.
     Went(ReqId),
 }

@@ -9,7 +9,6 @@ use Rattle.tab_doors.proofs.ReadOff.{begin_due}
 use Rattle.tab_doors.proofs.LogDues.{deny_due, destroy_due, drop_due, nowhere, turn_off}
 use Rattle.checking_facts.specs.States.{LeavesStates}
 use Rattle.checking_facts.specs.Checks.{GoesDuly}
-use Rattle.log_model.specs.Orders.{due_questions}
 use Rattle.tab_doors.specs.Working as working  -- keep
 use Rattle.seen_laws.proofs.Startings.{IsWorker}  -- keep
 use Rattle.tab_doors.proofs.EndLaws.{left_holds}

@@ -100,7 +100,7 @@ module _ (e : InEvent) (t : Tables) (queue : Queue) (blame : List (StateId × Re
           absurd cc
 
   turning : IsTurning e []
-  turning = turning_first e asks.aside.uncut tab.known early asks.aside.plain
+  turning = turning_first e asks.aside.uncut tab.known early
 
   queued : HasQueue (now_of e []) t.running queue.waiting
   queued =

@@ -7,7 +7,7 @@ use Rattle.tab_facts.specs.Calm.Calm.{IsCalmYet}
 use Rattle.seen_facts.specs.Coord.Leading.{held_back}
 use Rattle.log_model.specs.History.{has_row}
 use Rattle.log_model.specs.Places.{aim_of, all_stand}
-use Rattle.tab_releases.specs.PassedOn.{HasGrown, HasRested, HasStood, IsCalmFor, CameTo, HasQueue, IsAtRest, IsPassedOver, KeepsMade, LeavesInNeed, MayFollow, Refused, Rests, Turn, Went, aim_in}
+use Rattle.tab_releases.specs.PassedOn.{Asks, HasGrown, HasRested, HasStood, IsCalmFor, CameTo, HasQueue, IsAtRest, IsPassedOver, KeepsMade, LeavesInNeed, MayFollow, Refused, Rests, Turn, WaitsToAsk, Went, aim_in}
 use Rattle.tab_ids.specs.declared.NavId.{NavId}
 use Rattle.log_model.specs.Seen.{Seen}
 use Rattle.log_model.specs.declared.job.Why.{Why}
@@ -26,7 +26,7 @@ use Rattle.tab_settles.proofs.MovedRows.{shown_idle}
 use Rattle.tab_settles.proofs.MovedTurns.{shown_began}
 use Rattle.tab_settles.proofs.Stood.{stood_live, theirs_over}
 use Rattle.tab_settles.specs.Offs.{LateKnown}
-use Rattle.tab_settles.specs.Settling.{HasSettled, HasTurned, IsCalmAfter, IsCalmBefore, IsQueueing, IsReady, MovedAreShown}
+use Rattle.tab_settles.specs.Settling.{AsksFirst, HasSettled, HasTurned, IsCalmAfter, IsCalmBefore, IsQueueing, IsReady, MovedAreShown}
 use Rattle.log_model.specs.declared.job.Why.TheVariants as whys
 
 module _ (p : InPass) (out : List RowKind) (t : Tables) (queue : Queue) (blame : List (StateId × ReqId)) (cause : Why) (at : HasSettled p out t queue blame cause) (idle : t.running ≡ None) where
@@ -131,14 +131,11 @@ module _ (p : InPass) (out : List RowKind) (t : Tables) (queue : Queue) (blame :
           queueing = queueing_n;
         })
 
-    -- none was due
-    pub rested_settled : (turn : Turn) → turn ≡ Rests → CameTo p.event t u blame noted out new left.waiting turn → HasSettled p new u left noted cause
-    rested_settled turn is came =
-        subst (λ (l : List (StateId × ReqId)). HasSettled p new u left l cause) (sym rested.noted) (moved new (sym rested.out) u (sym rested.tables) queueing_n)
+    -- nothing was done
+    same_settled : new ≡ out → u ≡ t → noted ≡ blame → HasSettled p new u left noted cause
+    same_settled out_same tables_same noted_same =
+        subst (λ (l : List (StateId × ReqId)). HasSettled p new u left l cause) (sym noted_same) (moved new (sym out_same) u (sym tables_same) queueing_n)
       where
-        rested : HasRested p.event t u blame noted out new left.waiting
-        rested = subst (λ (x : Turn). CameTo p.event t u blame noted out new left.waiting x) is came
-
         moved : (l : List RowKind) → out ≡ l → (x : Tables) → t ≡ x → IsQueueing p l x left → HasSettled p l x left blame cause
         moved l same x alike =
             subst (λ (k : List RowKind). IsQueueing p k x left → HasSettled p k x left blame cause) same
@@ -160,3 +157,33 @@ module _ (p : InPass) (out : List RowKind) (t : Tables) (queue : Queue) (blame :
               theirs = at.theirs;
               queueing = going;
             }))
+
+    -- none was due
+    pub rested_settled : (turn : Turn) → turn ≡ Rests → CameTo p.event t u blame noted out new left.waiting turn → HasSettled p new u left noted cause
+    rested_settled turn is came =
+        let rested : HasRested p.event t u blame noted out new left.waiting = subst (λ (x : Turn). CameTo p.event t u blame noted out new left.waiting x) is came in
+        same_settled rested.out rested.tables rested.noted
+
+    -- the traversal whose turn it was waits to ask
+    waits_to_ask : (turn : Turn) (req : ReqId) → turn ≡ Asks req → CameTo p.event t u blame noted out new left.waiting turn → WaitsToAsk p.event t u blame noted out new left.waiting req
+    waits_to_ask turn req is came = subst (λ (x : Turn). CameTo p.event t u blame noted out new left.waiting x) is came
+
+    pub asks_settled : (turn : Turn) (req : ReqId) → turn ≡ Asks req → CameTo p.event t u blame noted out new left.waiting turn → HasSettled p new u left noted cause
+    asks_settled turn req is came =
+        let waits = waits_to_ask turn req is came in
+        same_settled waits.out waits.tables waits.noted
+
+    pub asks_first : (turn : Turn) (req : ReqId) → turn ≡ Asks req → CameTo p.event t u blame noted out new left.waiting turn → HasStood s turn → AsksFirst p.event new u.running left.waiting
+    asks_first turn req is came stood =
+        let waits = waits_to_ask turn req is came in
+        subst (λ (l : List RowKind). AsksFirst p.event l u.running left.waiting) (sym waits.out) (record {
+          idle = ap (λ (x : Tables). x.running) waits.tables ∙ idle;
+          stand = subst (λ (x : Turn). HasStood s x) is stood;
+          req = req;
+          first = waits.first;
+        })
+
+  pub asks_still : (new : List RowKind) (u : Tables) (noted : List (StateId × ReqId)) (waiting : List QueueStep) (turn : Turn) (req : ReqId) → turn ≡ Asks req → CameTo p.event t u blame noted out new waiting turn → new ≡ out
+  asks_still new u noted waiting turn req is came =
+      let waits : WaitsToAsk p.event t u blame noted out new waiting req = subst (λ (x : Turn). CameTo p.event t u blame noted out new waiting x) is came in
+      waits.out

@@ -15,3 +15,4 @@ pub mod EndedOff
 pub mod Unsettled
 pub mod Begun
 pub mod PassedOn
+pub mod Slots

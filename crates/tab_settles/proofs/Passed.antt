@@ -199,6 +199,11 @@ pub pass_off : (e : InEvent) (first out new : List RowKind) (run : Option ReqId)
 pass_off e first out new run cause tells off only left =
     off_passed e first out new off (put_only e run cause tells out new only) left.history left.aim
 
+-- before, and by a pass
+pub put_passed : (p : InPass) (first out mid : List RowKind) (u : Tables) → IsPassing p mid u → HasPut p.event first out → HasPut p.event out mid → HasPut p.event first mid
+put_passed p first out mid u passing one two =
+    put_then p.event u.running first out mid passing.work.goes passing.going.tab.asked one two
+
 -- before, by a pass, and by a turn
 pub put_both : (p : InPass) (first out mid new : List RowKind) (u : Tables) → IsPassing p new u → HasPut p.event first out → HasPut p.event out mid → HasPut p.event mid new → HasPut p.event first new
 put_both p first out mid new u passing one two three =

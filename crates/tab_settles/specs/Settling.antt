@@ -26,6 +26,7 @@ use Rattle.move_queue.specs.Queue.{Queue}
 use Rattle.move_queue.specs.declared.queue_step.QueueStep.{QueueStep}
 use Rattle.seen_facts.proofs.Request.Readers.{SameReads}
 use Rattle.seen_laws.specs.InEvent.{InEvent, now_of}
+use Rattle.tab_releases.specs.PassedOn.{IsNoneDue, IsToAsk}
 use Rattle.seen_laws.specs.Unasked.{is_question}
 use Rattle.std.specs.Prelude.{Bool, List, None, Option, Some, [], false, length, not, true, ℕ, ◌++◌, ◌+◌, ◌≡◌, ◌⊎◌, if◌then◌else◌}
 use Rattle.tab_releases.specs.PassedOn.{AreBlamed, AreLeftStrays, HasPassed, HasQueue, IsLoadApplied, IsOpen, LoadsLive, MayStand, show_why}
@@ -220,3 +221,16 @@ pub record HasSettled (p : InPass) (out : List RowKind) (t : Tables) (queue : Qu
   pub live : LoadsLive (now_of p.event out)
   pub theirs : LoadsMadeOwn (now_of p.event out)
   pub queueing : IsQueueing p out t queue
+
+-- ---- where no more is due
+
+-- no traversal runs, and all stand; the first step that waits is a traversal's, which is to ask somebody before it begins
+pub record AsksFirst (e : InEvent) (out : List RowKind) (run : Option ReqId) (waiting : List QueueStep) : Type 0 where
+  pub idle : run ≡ None
+  pub stand : all_stand (now_of e out) (now_of e out).history.current ≡ true
+  pub req : ReqId
+  pub first : IsToAsk e out waiting req
+
+-- no turn is due, or the traversal whose turn it is is to ask first
+abbrev pub IsOver : InEvent → List RowKind → Option ReqId → List QueueStep → Type 0
+IsOver e out run waiting = IsNoneDue (now_of e out) run waiting ⊎ AsksFirst e out run waiting

@@ -1,9 +1,9 @@
 //! One pass after the other, until nothing is due.
 ghost use Rattle.std.specs.Prelude.{◌≡◌, OnOk, false};
-ghost use Rattle.seen_laws.specs.InEvent.{now_of};
+ghost use Rattle.seen_laws.specs.InEvent.{log_of};
 ghost use Rattle.tab_releases.specs.Releasing.{InPass};
-ghost use Rattle.tab_releases.specs.PassedOn.{IsNoneDue};
-ghost use Rattle.tab_settles.specs.Settling.{HasPut, HasSettled, IsReady, LeavesOff, NoneRunsWhileHeld};
+ghost use Rattle.slot_facts.specs.Slots.{AreSlots};
+ghost use Rattle.tab_settles.specs.Settling.{HasPut, HasSettled, IsOver, IsReady, LeavesOff, NoneRunsWhileHeld};
 
 use crate::reasons::Reasons;
 use crate::turning::take_turn;
@@ -13,16 +13,17 @@ use log_model::{Header, Out};
 use move_queue::MoveQueue;
 use std::alloc::Global;
 use tab_doors::Tables;
-use tab_ids::{ReqId, StateId};
+use tab_ids::{DocId, ReqId, StateId};
 use tab_releases::pass;
 
-/// Brings the tab to rest: loads give way, stray documents are discarded, who needs it is shown a document or has one made, who is awake is told length and index; the traversal that runs ends where all stand, with what was held back for it, and the next step of the queue has its turn; then once more, until nothing is due. Where a traversal in its check holds the queue (`holds`), no step has its turn. HTML Standard, "apply the history step" and "session history traversal queue".
+/// Brings the tab to rest: loads give way, stray documents are discarded, who needs it is shown a document or has one made, who is awake is told length and index; the traversal that runs ends where all stand, with what was held back for it, and the next step of the queue has its turn; then once more, until nothing is due. Where a traversal in its check holds the queue (`holds`), no step has its turn, and a traversal that is to ask somebody before it begins waits on: there the tab rests, too. `slots` has the slots of the unload handlers. HTML Standard, "apply the history step" and "session history traversal queue".
 pub fn settle(
     alloc: Global,
     header: &Header,
     tables: &mut Tables,
     queue: &mut MoveQueue,
     blame: &mut IndexMap<StateId, ReqId>,
+    slots: &IndexMap<DocId, u8>,
     out: &mut Out,
     reasons: &mut Reasons,
     holds: bool,
@@ -31,8 +32,9 @@ pub fn settle(
     requires header { header.now ≡ p.event.header }
     requires ready { IsReady p out.old tables.old queue.old blame.old.entries reasons.old.cause }
     requires alone { NoneRunsWhileHeld holds tables.old.running }
+    requires slots { AreSlots (log_of p.event out.old) slots.now.entries }
     ensures settled { OnOk result (HasSettled p out.new tables.new queue.new blame.new.entries reasons.new.cause) }
-    ensures due { OnOk result (holds ≡ false → IsNoneDue (now_of p.event out.new) tables.new.running queue.new.waiting) }
+    ensures due { OnOk result (holds ≡ false → IsOver p.event out.new tables.new.running queue.new.waiting) }
     ensures alone { OnOk result (NoneRunsWhileHeld holds tables.new.running) }
     ensures put { OnOk result (HasPut p.event out.old out.new) }
     ensures off { OnOk result (LeavesOff p.event out.old out.new) }
@@ -41,7 +43,7 @@ pub fn settle(
     'passes: loop {
         let (cause, tells) = (reasons.cause, reasons.tells());
         pass(alloc, header, tables, blame, out, cause, tells)?;
-        if !take_turn(alloc, tables, queue, blame, out, reasons, holds)? {
+        if !take_turn(alloc, tables, queue, blame, slots, out, reasons, holds)? {
             return Ok(());
         }
     }

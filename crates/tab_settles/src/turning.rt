@@ -1,9 +1,10 @@
 //! One turn of the queue: the traversal that runs ends, or the next step has its turn.
 ghost use Rattle.std.specs.Prelude.{◌≡◌, ◌<◌, IfOk, None, OnOk, false, is_some, true};
-ghost use Rattle.seen_laws.specs.InEvent.{now_of};
+ghost use Rattle.seen_laws.specs.InEvent.{log_of, now_of};
 ghost use Rattle.tab_releases.specs.Releasing.{InPass};
 ghost use Rattle.tab_releases.specs.PassedOn.{IsNoneDue};
-ghost use Rattle.tab_settles.specs.Settling.{HasPut, HasSettled, HasTurned, IsReady, NoneRunsWhileHeld, turns_left};
+ghost use Rattle.slot_facts.specs.Slots.{AreSlots};
+ghost use Rattle.tab_settles.specs.Settling.{HasPut, HasSettled, HasTurned, IsOver, IsReady, NoneRunsWhileHeld, turns_left};
 
 use crate::reasons::Reasons;
 use address::OutOfMemory;
@@ -12,7 +13,7 @@ use log_model::Out;
 use move_queue::MoveQueue;
 use std::alloc::Global;
 use tab_doors::Tables;
-use tab_ids::{ReqId, StateId};
+use tab_ids::{DocId, ReqId, StateId};
 use tab_releases::{Turn, begin_next, end_running, release};
 
 /// The traversal that runs ends where all stand at the step that it leads to, and what was held back for it is taken up. Answers whether it ended; else nothing is done.
@@ -46,29 +47,32 @@ fn finish(
     Ok(false)
 }
 
-/// Where no traversal runs, the next step of the queue has its turn, if one is due. Answers whether it had; else nothing is put out.
+/// Where no traversal runs, the next step of the queue has its turn, if one is due and asks nobody. Answers whether it had; else nothing is put out.
 fn begin(
     alloc: Global,
     tables: &mut Tables,
     queue: &mut MoveQueue,
     blame: &mut IndexMap<StateId, ReqId>,
+    slots: &IndexMap<DocId, u8>,
     out: &mut Out,
     reasons: &mut Reasons,
 ) -> Result<bool, OutOfMemory>
     ghost p: { InPass }
     requires at { HasSettled p out.old tables.old queue.old blame.old.entries reasons.old.cause }
     requires idle { tables.old.running ≡ None }
+    requires slots { AreSlots (log_of p.event out.old) slots.now.entries }
     ensures ready { IfOk result (λ did. did ≡ true → IsReady p out.new tables.new queue.new blame.new.entries reasons.new.cause) }
     ensures fewer { IfOk result (λ did. did ≡ true → turns_left tables.new.running queue.new.waiting < turns_left tables.old.running queue.old.waiting) }
     ensures turned { IfOk result (λ did. did ≡ true → HasTurned p.event out.old out.new) }
     ensures still { IfOk result (λ did. did ≡ false → out.new ≡ out.old) }
     ensures rested { IfOk result (λ did. did ≡ false → HasSettled p out.new tables.new queue.new blame.new.entries reasons.new.cause) }
-    ensures due { IfOk result (λ did. did ≡ false → IsNoneDue (now_of p.event out.new) tables.new.running queue.new.waiting) }
+    ensures due { IfOk result (λ did. did ≡ false → IsOver p.event out.new tables.new.running queue.new.waiting) }
     ensures put { OnOk result (HasPut p.event out.old out.new) }
     ensures handled { reasons.new.handled ≡ reasons.old.handled }
 {
-    match begin_next(alloc, tables, queue, blame, out)? {
+    match begin_next(alloc, tables, queue, blame, slots, out)? {
         Turn::Rests => Ok(false),
+        Turn::Asks(_) => Ok(false),
         Turn::Refused => Ok(true),
         Turn::Went(req) => {
             if tables.running.is_none() {
@@ -80,12 +84,13 @@ fn begin(
     }
 }
 
-/// The traversal that runs ends, or, where none runs, the next step has its turn, where that is due; while a traversal in its check holds the queue (`holds`), no step has. Answers whether one had a turn; else nothing is put out.
+/// The traversal that runs ends, or, where none runs, the next step has its turn, where that is due; while a traversal in its check holds the queue (`holds`), no step has, nor a traversal that is to ask somebody before it begins. Answers whether one had a turn; else nothing is put out.
 pub(crate) fn take_turn(
     alloc: Global,
     tables: &mut Tables,
     queue: &mut MoveQueue,
     blame: &mut IndexMap<StateId, ReqId>,
+    slots: &IndexMap<DocId, u8>,
     out: &mut Out,
     reasons: &mut Reasons,
     holds: bool,
@@ -93,12 +98,13 @@ pub(crate) fn take_turn(
     ghost p: { InPass }
     requires at { HasSettled p out.old tables.old queue.old blame.old.entries reasons.old.cause }
     requires alone { NoneRunsWhileHeld holds tables.old.running }
+    requires slots { AreSlots (log_of p.event out.old) slots.now.entries }
     ensures ready { IfOk result (λ did. did ≡ true → IsReady p out.new tables.new queue.new blame.new.entries reasons.new.cause) }
     ensures fewer { IfOk result (λ did. did ≡ true → turns_left tables.new.running queue.new.waiting < turns_left tables.old.running queue.old.waiting) }
     ensures turned { IfOk result (λ did. did ≡ true → HasTurned p.event out.old out.new) }
     ensures still { IfOk result (λ did. did ≡ false → out.new ≡ out.old) }
     ensures rested { IfOk result (λ did. did ≡ false → HasSettled p out.new tables.new queue.new blame.new.entries reasons.new.cause) }
-    ensures due { holds ≡ false → IfOk result (λ did. did ≡ false → IsNoneDue (now_of p.event out.new) tables.new.running queue.new.waiting) }
+    ensures due { holds ≡ false → IfOk result (λ did. did ≡ false → IsOver p.event out.new tables.new.running queue.new.waiting) }
     ensures alone { NoneRunsWhileHeld holds tables.new.running }
     ensures put { OnOk result (HasPut p.event out.old out.new) }
     ensures handled { reasons.new.handled ≡ reasons.old.handled }
@@ -109,5 +115,5 @@ pub(crate) fn take_turn(
     if holds {
         return Ok(false);
     }
-    begin(alloc, tables, queue, blame, out, reasons)
+    begin(alloc, tables, queue, blame, slots, out, reasons)
 }

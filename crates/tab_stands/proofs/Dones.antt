@@ -34,7 +34,7 @@ use Rattle.tab_settles.proofs.PassedOn.{done_tab, its_report, queue_over}
 use Rattle.tab_settles.specs.PassedOn.{HasQueue, InPass, IsReadyLoadOf, IsTab}
 use Rattle.tab_doors.proofs.EndLaws.{left_holds}
 use Rattle.tab_doors.specs.Look.{look_of as sights_of, sight}
-use Rattle.tab_doors.specs.Working.{IsWorker, KeepsRun, StartsPlain}
+use Rattle.tab_doors.specs.Working.{IsWorker, KeepsRun}
 use Rattle.tab_doors.specs.declared.tables.Tables.{Tables}
 use Rattle.tab_ids.specs.declared.DocId.{DocId}
 use Rattle.tab_ids.specs.declared.NavId.{NavId}
@@ -152,10 +152,10 @@ module _ (e : InEvent) (proc : ProcId) (job : Job) (outcome : Outcome) (del : Is
             }
 
     module _ (u : Tables) (kept : KeepsRun t u) where
-      pub did_queueing : e.before ≡ [] → StartsPlain e → (left : Queue) → HasQueue did t.running left.waiting → left.parked ≡ queue.parked → IsQueueing (record { event = e; loads = check.loads; hand = [] }) [] u left
-      did_queueing uncut plain left queued parked =
+      pub did_queueing : e.before ≡ [] → (left : Queue) → HasQueue did t.running left.waiting → left.parked ≡ queue.parked → IsQueueing (record { event = e; loads = check.loads; hand = [] }) [] u left
+      did_queueing uncut left queued parked =
           record {
-            turning = told_turning e proc del.by_coord del.own t queue blame stands aside report del.first same did_tab.known uncut plain;
+            turning = told_turning e proc del.by_coord del.own t queue blame stands aside report del.first same did_tab.known uncut;
             queued = subst (λ (r : Option ReqId). HasQueue (now_of e []) r left.waiting) (sym kept.running) (subst (λ (x : Seen). HasQueue x t.running left.waiting) (sym did_now) queued);
             parked = parked ∙ did_holds_parked;
             held = λ idle. subst (λ (x : Seen). x.parked ≡ []) (sym did_now) (did_parked ∙ stands.between.held (sym kept.running ∙ idle));
@@ -235,4 +235,4 @@ module _ (e : InEvent) (proc : ProcId) (job : Job) (outcome : Outcome) (del : Is
         (told_going e proc del.by_coord del.own t queue blame stands aside report del.first (did_requests quiet_asks) room check.loads [] did_tab (told_held e proc del.by_coord del.own t queue blame stands aside report del.first (did_requests quiet_asks) did_parked) (rw places_same stands.lasts.counted.epochs))
         (told_rests e proc del.by_coord del.own t queue blame stands aside report del.first)
         (told_comes e proc del.by_coord del.own t queue blame stands aside report del.first (did_requests quiet_asks) (λ p. p) itself (places_same ∙ sym (map-id s.places)) documents_same)
-        (did_queueing quiet_asks t unchanged logged.logged.uncut logged.plain queue (did_queue quiet_asks documents_same) refl)
+        (did_queueing quiet_asks t unchanged logged.logged.uncut queue (did_queue quiet_asks documents_same) refl)

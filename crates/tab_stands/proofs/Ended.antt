@@ -30,7 +30,7 @@ use Rattle.std.specs.List.{list_all}
 use Rattle.std.specs.Prelude.{is_some, option_and_then}
 use Rattle.tab_doors.proofs.PassedOn.{pass_end, plain_nobody}
 use Rattle.tab_doors.specs.PassedOn.{noted_by}
-use Rattle.tab_doors.specs.Working.{IsAhead, IsAtWork}
+use Rattle.tab_doors.specs.Working.{IsAhead, IsAtWork, StartsPlain}
 use Rattle.tab_doors.specs.declared.tables.Tables.{Tables}
 use Rattle.tab_facts.specs.TabEvents.Between.{IsBetweenChecks}
 use Rattle.tab_ids.specs.declared.DocId.{DocId}
@@ -84,7 +84,7 @@ pub work_tied : (p : InPass) (out : List RowKind) (t : Tables) → IsAtWork p.ev
 work_tied p out t work =
     record { holds = work.holds; runs = work.runs; goal = work.goal; few = work.few; initial = work.initial; loads = work.loads; kept = work.kept }
 
-module _ (p : InPass) (out : List RowKind) (t : Tables) (queue : Queue) (blame : List (StateId × ReqId)) (cause : Why) (waits : Bool) (alone : NoneRunsWhileHeld waits t.running) (at : HasSettled p out t queue blame cause) (makes : MakesServe (now_of p.event out)) (sound : OrdersAreSound (now_of p.event out)) (of_coord : (row : RowKind) → Has out row → IsOfCoord row) (shows : AreShownUnder (log_of p.event [])) where
+module _ (p : InPass) (out : List RowKind) (t : Tables) (queue : Queue) (blame : List (StateId × ReqId)) (cause : Why) (waits : Bool) (alone : NoneRunsWhileHeld waits t.running) (at : HasSettled p out t queue blame cause) (makes : MakesServe (now_of p.event out)) (sound : OrdersAreSound (now_of p.event out)) (of_coord : (row : RowKind) → Has out row → IsOfCoord row) (shows : AreShownUnder (log_of p.event [])) (starts : StartsPlain p.event) where
   abbrev s : Seen
   s = now_of p.event out
 
@@ -94,7 +94,7 @@ module _ (p : InPass) (out : List RowKind) (t : Tables) (queue : Queue) (blame :
 
   -- nobody was asked so far
   plain : log_of p.event out ≡ s
-  plain = plain_now p.event out at.passing.work.goes at.queueing.turning.plain
+  plain = plain_now p.event out at.passing.work.goes starts
 
   tab : IsTab t.running p.loads [] s
   tab =

@@ -1,6 +1,5 @@
 -- A report tells what a document made, and that is at hand, held back for the traversal that runs, or a traversal that joins the queue: all goes on.
 use Rattle.load_doors.proofs.Starts.{requests_start}
-use Rattle.tab_doors.specs.Working.{StartsPlain}
 use Rattle.tab_stands.proofs.Applied.{none_applied}
 use Rattle.seen_facts.specs.Asked.Asking.{IsTabRequest}
 use Rattle.seen_facts.specs.Coord.Leading.{held_back}
@@ -133,10 +132,10 @@ module _ (e : InEvent) (proc : ProcId) (report : Report) (made : Made) (del : Is
           );
         }
 
-    queueing_free : e.before ≡ [] → StartsPlain e → (ids : List Made) → IsTab t.running check.loads ids n → (left : Queue) → HasQueue n t.running left.waiting → left.parked ≡ queue.parked → IsQueueing (record { event = e; loads = check.loads; hand = ids }) [] t left
-    queueing_free uncut plain ids tab left queued parked =
+    queueing_free : e.before ≡ [] → (ids : List Made) → IsTab t.running check.loads ids n → (left : Queue) → HasQueue n t.running left.waiting → left.parked ≡ queue.parked → IsQueueing (record { event = e; loads = check.loads; hand = ids }) [] t left
+    queueing_free uncut ids tab left queued parked =
         record {
-          turning = told_turning e proc del.by_coord del.own t queue blame stands aside report del.first same tab.known uncut plain;
+          turning = told_turning e proc del.by_coord del.own t queue blame stands aside report del.first same tab.known uncut;
           queued = subst (λ (x : Seen). HasQueue x t.running left.waiting) (sym now) queued;
           parked = parked ∙ stands.parked ∙ sym (unheld_then s e.event proc made (heard_first e proc report made del tells t queue blame stands aside) free) ∙ ap (λ (x : Seen). held_back x.requests x.parked) (sym now);
           held = λ idle. ap (λ (x : Seen). x.parked) now ∙ parked_same ∙ stands.between.held idle;
@@ -148,7 +147,7 @@ module _ (e : InEvent) (proc : ProcId) (report : Report) (made : Made) (del : Is
 
   pub hand_begun : IsNoGo made.what → is_held_back (seen_start e) made ≡ false → HasLogged e t.checks → HasRoomFor (seen_start e) → t.kept.keep ≡ e.header.keep → HasBegun (record { event = e; loads = check.loads; hand = made ∷ [] }) t queue blame
   hand_begun no_go free logged room header =
-      heard_begun e proc report made del tells t queue blame stands aside logged room header (made ∷ []) tab (held_free free) queue (queueing_free free logged.logged.uncut logged.plain (made ∷ []) tab queue (queue_still (unqueued s [] e.event actors.Coord proc report made del.first tells no_go)) refl)
+      heard_begun e proc report made del tells t queue blame stands aside logged room header (made ∷ []) tab (held_free free) queue (queueing_free free logged.logged.uncut (made ∷ []) tab queue (queue_still (unqueued s [] e.event actors.Coord proc report made del.first tells no_go)) refl)
     where
       tab : IsTab t.running check.loads (made ∷ []) n
       tab = hand_tab t.running s e.event proc stands.between.tab stands.between.flows report made del.first tells no_go free
@@ -221,7 +220,7 @@ module _ (e : InEvent) (proc : ProcId) (report : Report) (made : Made) (del : Is
     pub parked_begun : HasLogged e t.checks → HasRoomFor (seen_start e) → t.kept.keep ≡ e.header.keep → (left : Queue) → left ≡ record queue { parked = queue.parked ++ made ∷ [] } → HasBegun (record { event = e; loads = check.loads; hand = [] }) t left blame
     parked_begun logged room header left pushed =
         heard_begun e proc report made del tells t queue blame stands aside logged room header [] tab_held held_more left (record {
-          turning = told_turning e proc del.by_coord del.own t queue blame stands aside report del.first same tab_held.known logged.logged.uncut logged.plain;
+          turning = told_turning e proc del.by_coord del.own t queue blame stands aside report del.first same tab_held.known logged.logged.uncut;
           queued = subst (λ (x : Seen). HasQueue x t.running left.waiting) (sym now) (subst (λ (l : List QueueStep). HasQueue n t.running l) (sym (ap (λ (q : Queue). q.waiting) pushed)) (queue_still (unqueued s [] e.event actors.Coord proc report made del.first tells no_go)));
           parked = ap (λ (q : Queue). q.parked) pushed ∙ ap (λ (l : List Made). l ++ made ∷ []) stands.parked ∙ sym (held_then s e.event proc made (heard_first e proc report made del tells t queue blame stands aside) asked.q asked.there asked.makes held) ∙ ap (λ (x : Seen). held_back x.requests x.parked) (sym now);
           held = λ idle. absurd (busy idle);
@@ -291,4 +290,4 @@ module _ (e : InEvent) (proc : ProcId) (report : Report) (made : Made) (del : Is
 
     pub joined_begun : HasLogged e t.checks → HasRoomFor (seen_start e) → t.kept.keep ≡ e.header.keep → (left : Queue) → left ≡ record queue { waiting = queue.waiting ++ Traverse made.req delta ∷ [] } → HasBegun (record { event = e; loads = check.loads; hand = [] }) t left blame
     joined_begun logged room header left pushed =
-        heard_begun e proc report made del tells t queue blame stands aside logged room header [] tab_joined (held_free free_go) left (queueing_free free_go logged.logged.uncut logged.plain [] tab_joined left (subst (λ (l : List QueueStep). HasQueue n t.running l) (sym (ap (λ (q : Queue). q.waiting) pushed)) queue_more) (ap (λ (q : Queue). q.parked) pushed))
+        heard_begun e proc report made del tells t queue blame stands aside logged room header [] tab_joined (held_free free_go) left (queueing_free free_go logged.logged.uncut [] tab_joined left (subst (λ (l : List QueueStep). HasQueue n t.running l) (sym (ap (λ (q : Queue). q.waiting) pushed)) queue_more) (ap (λ (q : Queue). q.parked) pushed))

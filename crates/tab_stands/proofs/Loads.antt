@@ -62,7 +62,7 @@ module _ (e : InEvent) (t : Tables) (queue : Queue) (blame : List (StateId × Re
 
     turning : IsTurning e []
     turning =
-        turning_first e logged.logged.uncut (subst (λ (x : Seen). AreKnown x) (sym (now e req None load by_user own nr aside)) tab.known) (λ r q has at. early r q (ap (λ (x : Seen). request_of x r) (sym (now e req None load by_user own nr aside)) ∙ at)) logged.plain
+        turning_first e logged.logged.uncut (subst (λ (x : Seen). AreKnown x) (sym (now e req None load by_user own nr aside)) tab.known) (λ r q has at. early r q (ap (λ (x : Seen). request_of x r) (sym (now e req None load by_user own nr aside)) ∙ at))
 
     queued : HasQueue (now_of e []) t.running queue.waiting
     queued =

@@ -288,4 +288,4 @@ module _ (e : InEvent) (proc : ProcId) (job : Job) (outcome : Outcome) (del : Is
         (subst (λ (r : Option ReqId). IsGoing r check.loads [] (now_of e [])) (sym kept.running) (told_going e proc del.by_coord del.own t queue blame stands aside report del.first same room check.loads [] (did_tab e proc job outcome del t queue blame stands aside) (told_held e proc del.by_coord del.own t queue blame stands aside report del.first same (did_parked e proc job outcome del t queue blame stands aside)) (rw (places_now e proc job outcome del t queue blame stands aside nav state address initial task) stands.lasts.counted.epochs)))
         (told_rests e proc del.by_coord del.own t queue blame stands aside report del.first)
         (made_comes e proc job outcome del t queue blame stands aside nav state address initial task noted (subst (λ (x : Seen). IsMadeNoted x blame noted job.doc state) (did_now e proc job outcome del t queue blame stands aside) notes))
-        (did_queueing e proc job outcome del t queue blame stands aside (made_asks e proc job outcome del t queue blame stands aside nav state address initial task) u kept logged.logged.uncut logged.plain left (subst (λ (l : List QueueStep). HasQueue n t.running l) (sym (ap (λ (q : Queue). q.waiting) pushed)) queue_then) (ap (λ (q : Queue). q.parked) pushed))
+        (did_queueing e proc job outcome del t queue blame stands aside (made_asks e proc job outcome del t queue blame stands aside nav state address initial task) u kept logged.logged.uncut left (subst (λ (l : List QueueStep). HasQueue n t.running l) (sym (ap (λ (q : Queue). q.waiting) pushed)) queue_then) (ap (λ (q : Queue). q.parked) pushed))

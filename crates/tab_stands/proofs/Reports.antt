@@ -37,7 +37,7 @@ use Rattle.std.proofs.lemmas.Bool.Decides.{nat_tests}
 use Rattle.std.specs.Prelude.{nat_lt, option_map, slice_get}
 use Rattle.tab_doors.specs.Look.{look_of as sights_of, moved_by}
 use Rattle.tab_doors.specs.Ties.{AreInitial, Holds, IsRunning}
-use Rattle.tab_doors.specs.Working.{HasGoal, KeepsRun, StartsPlain}
+use Rattle.tab_doors.specs.Working.{HasGoal, KeepsRun}
 use Rattle.tab_doors.specs.declared.tables.Tables.{Tables}
 use Rattle.tab_facts.specs.TabEvents.Between.{IsBetweenChecks}
 use Rattle.tab_settles.proofs.Lates.{unstood_by}
@@ -126,8 +126,8 @@ module _ (e : InEvent) (proc : ProcId) (by_coord : e.actor ≡ actors.Coord) (ow
         let many : length s.requests ≡ length e.start.requests = requests_start e in
         inr (grind (arith, nat_tests, low, many))
 
-    pub told_turning : AreKnown told → e.before ≡ [] → StartsPlain e → IsTurning e []
-    told_turning known uncut plain_start = turning_first e uncut (subst (λ (x : Seen). AreKnown x) (sym told_now) known) (λ req q has at. early req q at) plain_start
+    pub told_turning : AreKnown told → e.before ≡ [] → IsTurning e []
+    told_turning known uncut = turning_first e uncut (subst (λ (x : Seen). AreKnown x) (sym told_now) known) (λ req q has at. early req q at)
 
     -- nothing is held back that wasn't before
     pub told_held : told.parked ≡ (seen_start e).parked → AreHeldUp t.running told

@@ -195,7 +195,7 @@ module _ (e : InEvent) (proc : ProcId) (job : Job) (outcome : Outcome) (del : Is
         (told_going e proc del.by_coord del.own t queue blame stands aside report del.first same room check.loads [] (did_tab e proc job outcome del t queue blame stands aside) (told_held e proc del.by_coord del.own t queue blame stands aside report del.first same (did_parked e proc job outcome del t queue blame stands aside)) epochs_then)
         (told_rests e proc del.by_coord del.own t queue blame stands aside report del.first)
         (told_comes e proc del.by_coord del.own t queue blame stands aside report del.first same g (arrives_at d.nav job) places_are documents_same)
-        (did_queueing e proc job outcome del t queue blame stands aside asks noted kept_run logged.logged.uncut logged.plain queue (did_queue e proc job outcome del t queue blame stands aside asks documents_same) refl)
+        (did_queueing e proc job outcome del t queue blame stands aside asks noted kept_run logged.logged.uncut queue (did_queue e proc job outcome del t queue blame stands aside asks documents_same) refl)
 
     pub shown_begun : HasLogged e t.checks → HasRoomFor (seen_start e) → t.kept.keep ≡ e.header.keep → (u : Tables) → u ≡ record t { tree = shown_tree t job.doc job.nr } → HasBegun (record { event = e; loads = check.loads; hand = [] }) u queue blame
     shown_begun logged room header u is =

@@ -1,5 +1,4 @@
 -- The traversal that waits first begins, or is refused where its delta leads nowhere; and all goes on then.
-use Rattle.tab_doors.proofs.Works.{plain_now}
 use Rattle.tab_doors.specs.Dues.{AsksNone}
 use Rattle.tab_ids.specs.declared.NavId.{NavId}
 use Rattle.tab_facts.specs.FrameWhole.Tab.{AreAwakeWithRows}
@@ -8,8 +7,7 @@ use Rattle.tab_facts.specs.Calm.Calm.{IsCalm, IsCalmYet, IsHere}
 use Rattle.seen_facts.specs.Home.Homes.{AreHomed}
 use Rattle.seen_facts.specs.Hang.Hanging.{Hangs}
 use Rattle.log_model.specs.Soundness.{IsSound}
-use Rattle.log_model.specs.Orders.{due_questions}
-use Rattle.seen_laws.specs.Unasked.{unasked}
+use Rattle.seen_laws.specs.Unasked.{unasked, unasked_request, unbegun, without_asks}
 use Rattle.tab_passes.proofs.PassedOn.{AreLeftDuly, IsNoProcess, bare_traversal_duly, begun_going, begun_tab, duly_then, joined_unheld, no_load, nowhere_tab, refused_duly, refused_going, refused_lasting, started_lasting}
 use Rattle.seen_laws.proofs.InEvents.{last_goes, now_at, now_is}
 use Rattle.tab_doors.proofs.PassedOn.{refused_goes, refused_now}
@@ -41,12 +39,12 @@ use Rattle.row_facts.proofs.RestRows.Rows.{refused_rests, started_rests}
 use Rattle.row_facts.specs.RestRows.Moving.{AllRest}
 use Rattle.seen_laws.specs.InEvent.{InEvent, now_of, row_of, seen_here, log_of}
 use Rattle.seen_laws.specs.Owing.{is_sole_load, owes_row}
-use Rattle.std.proofs.Common.{Bool, List, None, Option, Some, [], ap, false, length, negsuc, pos, refl, subst, sym, true, ℕ, ℤ, ◌+ℤ◌, ◌++◌, ◌∙◌, ◌∷◌, ◌≡◌, ◌≤◌, ◌⊎◌, inl, inr}
+use Rattle.std.proofs.Common.{Bool, List, None, Option, Some, [], ap, false, length, negsuc, pos, refl, subst, sym, true, ℕ, ℤ, ◌+ℤ◌, ◌++◌, ◌∙◌, ◌∷◌, ◌≡◌, ◌≤◌, ◌⊎◌, inl, inr, cond}
 use Rattle.std.specs.Prelude.{nat_lt, option_map}
 use Rattle.step_index.specs.contracts.step_index.StepIndexStore.TheImpl.Laws.{sound-law}
 use Rattle.step_index.specs.Held.{history_held}
 use Rattle.tab_doors.proofs.Histories.{log_steps}
-use Rattle.tab_doors.proofs.LogDues.{turn_off}
+use Rattle.tab_doors.proofs.LogDues.{turn_off, found_from}
 use Rattle.tab_doors.specs.Dues.{IsBeginDue, IsNowhere}
 use Rattle.tab_doors.specs.Working.{IsAtWork, IsWorker}
 use Rattle.tab_doors.specs.declared.tables.Tables.{Tables}
@@ -126,6 +124,14 @@ owes_none e out req goal q at goes end = rw at (sole q.what goes q.nr end)
 
 -- ---- its turn
 
+-- what a request asks for is the same without questions
+pub what_bare : (checking : ReqId → Bool) (q : Asked) → (unasked_request checking q).what ≡ q.what
+what_bare checking q =
+    elim (checking q.nr) as (λ b. (let r : Asked = cond b (unbegun q) (without_asks q) in r).what ≡ q.what) [
+      | true ↦ refl
+      | false ↦ refl
+    ]
+
 module _ (p : InPass) (out : List RowKind) (t : Tables) (passing : IsPassing p out t) (turning : IsTurning p.event out) (idle : t.running ≡ None) (req : ReqId) (delta : ℤ) (first : IsFirst (now_of p.event out) req delta) (stand : all_stand (now_of p.event out) (now_of p.event out).history.current ≡ true) where
   abbrev e : InEvent
   e = p.event
@@ -152,10 +158,6 @@ module _ (p : InPass) (out : List RowKind) (t : Tables) (passing : IsPassing p o
   turn : begins_in_turn s req ≡ true
   turn = first_turn s req delta tab.asked stand first
 
-  -- nobody was asked so far
-  plain : log_of e out ≡ s
-  plain = plain_now e out passing.work.goes turning.plain
-
   unheld : IsUnheld None p.loads p.hand s tab req
   unheld = joined_unheld None p.loads p.hand s tab req its.joined
 
@@ -167,11 +169,6 @@ module _ (p : InPass) (out : List RowKind) (t : Tables) (passing : IsPassing p o
   -- ---- it begins
 
   module _ (goal : Step) (there : step_at_delta s delta ≡ Some goal.0) where
-    -- nobody is to be asked
-    pub begin_unasked : AsksNone (log_of e out) req (Some goal)
-    begin_unasked q at =
-        subst (λ (x : Seen). due_questions x q.what (Some goal) ≡ []) (sym plain) (none_asked s tab.docs q.what (Some goal))
-
     pub begin_due : IsBeginDue s req goal
     begin_due =
         record {
@@ -224,10 +221,10 @@ module _ (p : InPass) (out : List RowKind) (t : Tables) (passing : IsPassing p o
           (loose_more e out (rows.Started req (Some goal)) (last_goes e out (rows.Started req (Some goal)) _ out_is work.goes).read loose (begun_lasts s e.event e.actor req (Some goal) its.q its.at (no_load its.q.what its.goes)) (λ end on. owes_none e out req goal its.q its.at its.goes end))
 
       -- whom requests leave was asked, as the tab is calm, and the traversal asks nobody
-      begun_duly : AreAwakeWithRows s → AreLeftDuly (log_of e more)
-      begun_duly with_rows =
+      begun_duly : AsksNone (log_of e out) req (Some goal) → AreAwakeWithRows s → AreLeftDuly (log_of e more)
+      begun_duly asks_nobody with_rows =
           duly_then e out (rows.Started req (Some goal)) more out_is
-          (bare_traversal_duly e.checking (log_of e out) e.event e.actor passing.duly (by_now tab.sound) (at_bare Hangs tab.hangs) (at_bare AreHomed tab.homes) req its.q (there_log its.q its.at) goal its.goes (at_bare IsCalmYet calm) asks_none)
+          (bare_traversal_duly e.checking (log_of e out) e.event e.actor passing.duly (by_now tab.sound) (at_bare Hangs tab.hangs) (at_bare AreHomed tab.homes) req real.0 real.1 goal goes_log (at_bare IsCalmYet calm) (asks_nobody real.0 real.1))
         where
           at_bare : (P : Seen → Type 0) → P s → P (unasked e.checking (log_of e out))
           at_bare P is = subst P (now_is e out) is
@@ -235,11 +232,12 @@ module _ (p : InPass) (out : List RowKind) (t : Tables) (passing : IsPassing p o
           by_now : IsSound s.history → IsSound (log_of e out).history
           by_now is = at_bare (λ (x : Seen). IsSound x.history) is
 
-          there_log : (q : Asked) → request_of s req ≡ Some q → request_of (log_of e out) req ≡ Some q
-          there_log q at = subst (λ (x : Seen). request_of x req ≡ Some q) (sym plain) at
+          -- the request as the log itself has it
+          real : (q : Asked) × (request_of (log_of e out) req ≡ Some q) × (its.q ≡ unasked_request e.checking q)
+          real = found_from e.checking (log_of e out) req its.q (subst (λ (x : Seen). request_of x req ≡ Some its.q) (now_is e out) its.at)
 
-          asks_none : due_questions (log_of e out) its.q.what (Some goal) ≡ []
-          asks_none = subst (λ (x : Seen). due_questions x its.q.what (Some goal) ≡ []) (sym plain) (none_asked s tab.docs its.q.what (Some goal))
+          goes_log : is_traversal real.0.what ≡ true
+          goes_log = ap (λ (w : Request). is_traversal w) (sym (what_bare e.checking real.0)) ∙ ap (λ (q : Asked). is_traversal q.what) (sym real.2) ∙ its.goes
 
           stood : IsCalm s
           stood = calm_stood s tab.sound tab.hangs tab.homes tab.standing with_rows stand
@@ -259,15 +257,15 @@ module _ (p : InPass) (out : List RowKind) (t : Tables) (passing : IsPassing p o
               by_wakes nav place (inl never) = absurd never
               by_wakes nav place (inr wakes) = inr wakes
 
-      pub begin_passing : s.parked ≡ [] → AreAwakeWithRows s → IsPassing p more u
-      begin_passing none with_rows =
+      pub begin_passing : AsksNone (log_of e out) req (Some goal) → s.parked ≡ [] → AreAwakeWithRows s → IsPassing p more u
+      begin_passing asks_nobody none with_rows =
           record {
             work = work;
             going = subst (λ (x : Seen). IsGoing u.running p.loads p.hand x) (sym now) (subst (λ (x : Tables). IsGoing x.running p.loads p.hand n) (sym tables) (going_then none));
             owed = loose_owed e more loose_then;
             loose = λ all. loose_then;
             rests = subst (λ (x : Seen). AllRest x) (sym now) (started_rests s e.event e.actor [] passing.rests req (Some goal));
-            duly = begun_duly with_rows;
+            duly = begun_duly asks_nobody with_rows;
             few = subst (λ (x : Tables). length (now_of e more).kept ≤ x.kept.keep) (sym tables) (subst (λ (l : List DocId). length l ≤ t.kept.keep) (sym (ap (λ (x : Seen). x.kept) now)) passing.few);
           }
 

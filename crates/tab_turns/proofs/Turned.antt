@@ -1,5 +1,4 @@
 -- What the rows of a traversal's turn leave, and what is known of the event in which they are put out.
-use Rattle.tab_doors.specs.Working.{StartsPlain}
 use Rattle.tab_passes.specs.PassedOn.{Wish, wish}
 use Rattle.seen_facts.specs.Asked.Asking.{ArePlain}
 use Rattle.log_model.specs.Checks.{is_checked, may_go_on}
@@ -101,13 +100,12 @@ all_rest s (r ∷ reqs) are req q has at = by_test (r.0 == req.0) refl has (λ h
     by_test false is h more = more h
 
 -- it is so as the event's own row has come, where what joined isn't refused as it is accepted
-pub turning_first : (e : InEvent) → e.before ≡ [] → AreKnown (now_of e []) → ((req : ReqId) (q : Asked) → has_req (now_of e []).joined req ≡ true → request_of (now_of e []) req ≡ Some q → denial_at_acceptance e.start q.what ≡ None ⊎ (nat_lt (length e.start.requests) req.0 ≡ false)) → StartsPlain e → IsTurning e []
-turning_first e uncut known early plain =
+pub turning_first : (e : InEvent) → e.before ≡ [] → AreKnown (now_of e []) → ((req : ReqId) (q : Asked) → has_req (now_of e []).joined req ≡ true → request_of (now_of e []) req ≡ Some q → denial_at_acceptance e.start q.what ≡ None ⊎ (nat_lt (length e.start.requests) req.0 ≡ false)) → IsTurning e []
+turning_first e uncut known early =
     record {
       parked = inl (uncut_held e uncut);
       apart = λ req q held at. all_rest (now_of e []) (now_of e []).parked known.parked req q (subst (λ (l : List ReqId). has_req l req ≡ true) (sym (uncut_held e uncut)) held) at;
       early = early;
-      plain = plain;
     }
 
 -- it stays so where nobody joins, requests ask as they did, and what is held back is as it was, or nothing is any more
@@ -119,7 +117,6 @@ turning_on e out more held same fewer turning =
       early = λ req q joined at. (let w = was req q at in
           subst (λ (x : Wish). denial_at_acceptance e.start x.what ≡ None ⊎ (nat_lt (length e.start.requests) req.0 ≡ false)) w.2
           (turning.early req w.0 (fewer req joined) w.1));
-      plain = turning.plain;
     }
   where
     was : (req : ReqId) (q : Asked) → request_of (now_of e more) req ≡ Some q → (p : Asked) × (request_in (now_of e out).requests req ≡ Some p) × (wish p ≡ wish q)

@@ -5,7 +5,9 @@ use Rattle.log_model.specs.History.{History, history_index, used_steps}
 use Rattle.log_model.specs.Once.{delta_of, step_at_delta}
 use Rattle.log_model.specs.Seen.{Asked, Seen, request_in}
 use Rattle.log_model.specs.declared.row_kind.RowKind.{RowKind}
-use Rattle.seen_laws.specs.InEvent.{InEvent, now_of}
+use Rattle.seen_laws.specs.InEvent.{InEvent, log_of, now_of}
+use Rattle.tab_doors.specs.Dues.{AsksNone}
+use Rattle.tab_ids.specs.declared.Step.{Step}
 use Rattle.std.specs.Prelude.{List, None, Option, Some, [], option_and_then, pos, slice_get, ℕ, ℤ, ◌+ℤ◌, ◌++◌, ◌∷◌, ◌≡◌}
 use Rattle.tab_doors.specs.declared.tables.Tables.{Tables}
 use Rattle.tab_ids.specs.declared.ReqId.{ReqId}
@@ -17,6 +19,10 @@ use Rattle.log_model.specs.declared.row_kind.RowKind.TheVariants as rows
 pub record IsFirst (s : Seen) (req : ReqId) (delta : ℤ) : Type 0 where
   pub first : slice_get s.joined 0 ≡ Some req
   pub asks : option_and_then (λ (q : Asked). delta_of q.what) (request_in s.requests req) ≡ Some delta
+
+-- to whichever step its delta leads, nobody is to be asked in the log itself
+abbrev pub MayGoUnasked : InEvent → List RowKind → ReqId → ℤ → Type 0
+MayGoUnasked e out req delta = (goal : Step) → step_at_delta (now_of e out) delta ≡ Some goal.0 → AsksNone (log_of e out) req (Some goal)
 
 -- what stands at a place of a list; nothing before its first
 abbrev pub at_place : List ℕ → ℤ → Option ℕ

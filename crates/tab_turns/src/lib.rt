@@ -5,6 +5,6 @@ mod beginning;
 mod ending;
 mod standing;
 
-pub use beginning::begin_traversal;
+pub use beginning::{begin_traversal, goal_of};
 pub use ending::end_running;
 pub use standing::stand_at;

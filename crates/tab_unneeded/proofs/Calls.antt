@@ -74,8 +74,8 @@ module _ (m : InMade) (doc : DocId) (state : StateId) (why : Why) (its : IsMadeU
 
           pub ready_as : IsReady (record { event = m.event; loads = check.loads; hand = [] }) out v m.queue m.noted whys.Start
           ready_as =
-              discarded_ready m.event m.proc m.job m.outcome its.tells t m.queue m.noted stands its.aside its.nav state its.address its.initial its.task why its.unasked own_stray u kept passing out v own_out keeps then_ header logged.logged.uncut logged.plain
+              discarded_ready m.event m.proc m.job m.outcome its.tells t m.queue m.noted stands its.aside its.nav state its.address its.initial its.task why its.unasked own_stray u kept passing out v own_out keeps then_ header logged.logged.uncut
 
           pub kept_as : KeepsRun t v
           kept_as =
-              kept_run m.event m.proc m.job m.outcome its.tells t m.queue m.noted stands its.aside its.nav state its.address its.initial its.task why its.unasked own_stray u kept passing out v own_out keeps then_ header logged.logged.uncut logged.plain
+              kept_run m.event m.proc m.job m.outcome its.tells t m.queue m.noted stands its.aside its.nav state its.address its.initial its.task why its.unasked own_stray u kept passing out v own_out keeps then_ header logged.logged.uncut

@@ -25,7 +25,7 @@ use Rattle.std.proofs.lemmas.Bool.{and_parts}
 use Rattle.std.specs.List.{list_any}
 use Rattle.std.specs.Prelude.{option_map}
 use Rattle.tab_doors.specs.Orders.{order_to}
-use Rattle.tab_doors.specs.Working.{KeepsRun, KeepsStore, StartsPlain}
+use Rattle.tab_doors.specs.Working.{KeepsRun, KeepsStore}
 use Rattle.tab_doors.specs.declared.tables.Tables.{Tables}
 use Rattle.tab_ids.specs.declared.NavId.{NavId}
 use Rattle.tab_ids.specs.declared.ProcId.{ProcId}
@@ -48,7 +48,7 @@ use Rattle.log_model.specs.declared.job.Why.TheVariants as whys
 use Rattle.log_model.specs.declared.made.Report.TheVariants as reports
 use Rattle.log_model.specs.declared.row_kind.RowKind.TheVariants as rows
 
-module _ (e : InEvent) (proc : ProcId) (job : Job) (outcome : Outcome) (del : IsSeenDelivery e proc (reports.Done job outcome None)) (t : Tables) (queue : Queue) (blame : List (StateId × ReqId)) {check : InCheck} (stands : StandsFor check (seen_start e) t queue blame) (aside : IsOwnRead e) (nav : NavId) (state : StateId) (address : List ℕ) (initial : Bool) (task : job.task ≡ tasks.Populate nav state address initial) (why : Why) (unasked : (req : ReqId) → why ≡ whys.Req req → ⊥) (stray : IsStray (now_of e []) job.doc state) (u : Tables) (noted : KeepsRun t u) (first : IsPassing (record { event = e; loads = check.loads; hand = [] }) [] u) (out : List RowKind) (v : Tables) (is : out ≡ rows.Sent (order_to (now_of e []) job.doc why tasks.Discard) ∷ []) (keeps : KeepsStore u v) (passing : IsPassing (record { event = e; loads = check.loads; hand = [] }) out v) (header : t.kept.keep ≡ e.header.keep) (uncut : e.before ≡ []) (plain_start : StartsPlain e) where
+module _ (e : InEvent) (proc : ProcId) (job : Job) (outcome : Outcome) (del : IsSeenDelivery e proc (reports.Done job outcome None)) (t : Tables) (queue : Queue) (blame : List (StateId × ReqId)) {check : InCheck} (stands : StandsFor check (seen_start e) t queue blame) (aside : IsOwnRead e) (nav : NavId) (state : StateId) (address : List ℕ) (initial : Bool) (task : job.task ≡ tasks.Populate nav state address initial) (why : Why) (unasked : (req : ReqId) → why ≡ whys.Req req → ⊥) (stray : IsStray (now_of e []) job.doc state) (u : Tables) (noted : KeepsRun t u) (first : IsPassing (record { event = e; loads = check.loads; hand = [] }) [] u) (out : List RowKind) (v : Tables) (is : out ≡ rows.Sent (order_to (now_of e []) job.doc why tasks.Discard) ∷ []) (keeps : KeepsStore u v) (passing : IsPassing (record { event = e; loads = check.loads; hand = [] }) out v) (header : t.kept.keep ≡ e.header.keep) (uncut : e.before ≡ []) where
   abbrev s : Seen
   s = seen_start e
 
@@ -156,7 +156,7 @@ module _ (e : InEvent) (proc : ProcId) (job : Job) (outcome : Outcome) (del : Is
   queueing : IsQueueing (record { event = e; loads = check.loads; hand = [] }) out v queue
   queueing =
       record {
-        turning = turning_on e [] out (inl parked_first) (λ req. ap (λ (l : List Asked). option_map wish (request_in l req)) requests_first) (λ req has. ap (λ (l : List ReqId). has_req l req) (sym joined_first) ∙ has) (told_turning e proc del.by_coord del.own t queue blame stands aside (reports.Done job outcome None) del.first same (did_tab e proc job outcome del t queue blame stands aside).known uncut plain_start);
+        turning = turning_on e [] out (inl parked_first) (λ req. ap (λ (l : List Asked). option_map wish (request_in l req)) requests_first) (λ req has. ap (λ (l : List ReqId). has_req l req) (sym joined_first) ∙ has) (told_turning e proc del.by_coord del.own t queue blame stands aside (reports.Done job outcome None) del.first same (did_tab e proc job outcome del t queue blame stands aside).known uncut);
         queued = subst (λ (r : Option ReqId). HasQueue n r queue.waiting) (sym kept_run.running) (queue_over s n leaves t.running queue.waiting stands.queue);
         parked = stands.parked ∙ ap (λ (l : List Asked). held_back l s.parked) (sym requests) ∙ ap (λ (l : List ReqId). held_back n.requests l) (sym parked);
         held = λ idle. parked ∙ stands.between.held (sym kept_run.running ∙ idle);

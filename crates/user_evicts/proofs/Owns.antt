@@ -200,7 +200,7 @@ module _ (e : InEvent) (state : StateId) (asks : IsEvictAsk e state) (t : Tables
   -- ---- what waits, and what is held back
 
   pub turning_own : IsTurning e []
-  turning_own = turning_first e aside.uncut tab_own.known (λ req q has at. early req q at) aside.plain
+  turning_own = turning_first e aside.uncut tab_own.known (λ req q has at. early req q at)
     where
       early : (req : ReqId) (q : Asked) → request_of (now_of e []) req ≡ Some q → denial_at_acceptance e.start q.what ≡ None ⊎ (nat_lt (length e.start.requests) req.0 ≡ false)
       early req q at =

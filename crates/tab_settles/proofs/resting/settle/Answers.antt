@@ -1,7 +1,8 @@
 use Rattle.log_model.specs.declared.row_kind.RowKind.{RowKind}
 use Rattle.std.proofs.Common.{List, rules, subst, sym, ◌∙◌, ◌≡◌}
 use Rattle.tab_settles.proofs.LoadsOff.{off_turned}
-use Rattle.tab_settles.proofs.Passed.{pass_asks, pass_off, pass_ready_put, put_both, settled}
+use Rattle.tab_settles.proofs.Passed.{pass_asks, pass_off, pass_ready_put, put_both, put_passed, settled}
+use Rattle.tab_settles.proofs.Slots.{put_slots}
 use Rattle.tab_settles.proofs.resting.settle.Goals as goal
 use Rattle.tab_settles.specs.Settling.{HasSettled, HasTurned, IsReady, LeavesOff}
 
@@ -11,7 +12,7 @@ pass-requires g c =
 
 pub take_turn-requires : goal.take_turn-requires
 take_turn-requires g c =
-    (settled g.p _ _ _ _ _ c.passes.invariant.0 _ _ _ _ c.in_ok-pass.ensures.passing c.in_ok-pass.ensures.served c.in_ok-pass.ensures.told c.in_ok-pass.ensures.strays c.in_ok-pass.ensures.passed c.in_ok-pass.ensures.left c.in_ok-pass.ensures.only c.in_ok-pass.ensures.kept c.in_ok-pass.ensures.calm c.in_ok-pass.ensures.sent, λ held. c.in_ok-pass.ensures.kept.running ∙ c.passes.invariant.1.1.1.1 held)
+    (settled g.p _ _ _ _ _ c.passes.invariant.0 _ _ _ _ c.in_ok-pass.ensures.passing c.in_ok-pass.ensures.served c.in_ok-pass.ensures.told c.in_ok-pass.ensures.strays c.in_ok-pass.ensures.passed c.in_ok-pass.ensures.left c.in_ok-pass.ensures.only c.in_ok-pass.ensures.kept c.in_ok-pass.ensures.calm c.in_ok-pass.ensures.sent, (λ held. c.in_ok-pass.ensures.kept.running ∙ c.passes.invariant.1.1.1.1 held, put_slots g.p.event _ _ _ (put_passed g.p _ _ _ _ c.in_ok-pass.ensures.passing c.passes.invariant.1.0 (pass_ready_put g.p _ _ _ _ _ c.passes.invariant.0 _ _ c.in_ok-pass.ensures.only c.in_ok-pass.ensures.left)) c.requires.1.1.1))
 
 pub returns-then-not-branch-clause-put : goal.returns-then-not-branch-clause-put
 returns-then-not-branch-clause-put g c =

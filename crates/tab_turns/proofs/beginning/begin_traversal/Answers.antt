@@ -5,7 +5,7 @@ use Rattle.std.proofs.lemmas.Int.{to_z-of_z}
 use Rattle.seen_facts.specs.Each.Runs.{is_this}
 use Rattle.std.specs.Prelude.{Option}
 use Rattle.tab_ids.specs.declared.ReqId.{ReqId}
-use Rattle.tab_turns.proofs.Begins.{begin_due, begin_unasked, begin_passing, begin_turning, has_begun, has_refused, refuse_due, refuse_passing, refuse_turning, to_goal, to_none}
+use Rattle.tab_turns.proofs.Begins.{begin_due, begin_passing, begin_turning, has_begun, has_refused, refuse_due, refuse_passing, refuse_turning, to_goal, to_none}
 use Rattle.tab_turns.proofs.beginning.begin_traversal.Goals as goal
 
 pub refuse-requires : goal.refuse-requires
@@ -18,7 +18,7 @@ pub begin-requires : goal.begin-requires
 begin-requires g c =
     let fits : SFits w32 c.args.delta = search rules in
     let there = to_goal _ _ _ c.requires.0.work c.args.delta _ (to_z-of_z w32 c.args.delta fits) _ c.goal_of.ensures _ c.in-Some.is in
-    (c.requires.0.work, (c.requires.1.1.0, (begin_due g.p _ _ c.requires.0 c.requires.1.0 c.requires.1.1.0 _ _ c.requires.1.1.1.0 c.requires.1.1.1.1.0 _ there, begin_unasked g.p _ _ c.requires.0 c.requires.1.0 c.requires.1.1.0 _ _ c.requires.1.1.1.0 c.requires.1.1.1.1.0 _ there)))
+    (c.requires.0.work, (c.requires.1.1.0, (begin_due g.p _ _ c.requires.0 c.requires.1.0 c.requires.1.1.0 _ _ c.requires.1.1.1.0 c.requires.1.1.1.1.0 _ there, c.requires.1.1.1.1.1.1.1 _ there)))
 
 pub returns-in_ok-refuse-in-None-clause-passing : goal.returns-in_ok-refuse-in-None-clause-passing
 returns-in_ok-refuse-in-None-clause-passing g c =
@@ -42,7 +42,7 @@ pub returns-in_ok-begin-in-Some-clause-passing : goal.returns-in_ok-begin-in-Som
 returns-in_ok-begin-in-Some-clause-passing g c =
     let fits : SFits w32 c.args.delta = search rules in
     let there = to_goal _ _ _ c.requires.0.work c.args.delta _ (to_z-of_z w32 c.args.delta fits) _ c.goal_of.ensures _ c.in-Some.is in
-    begin_passing g.p _ _ c.requires.0 c.requires.1.0 c.requires.1.1.0 _ _ c.requires.1.1.1.0 c.requires.1.1.1.1.0 _ there _ _ c.in_ok-begin-in-Some.ensures.out c.in_ok-begin-in-Some.ensures.work c.in_ok-begin-in-Some.ensures.tables c.requires.1.1.1.1.1.0 c.requires.1.1.1.1.1.1
+    begin_passing g.p _ _ c.requires.0 c.requires.1.0 c.requires.1.1.0 _ _ c.requires.1.1.1.0 c.requires.1.1.1.1.0 _ there _ _ c.in_ok-begin-in-Some.ensures.out c.in_ok-begin-in-Some.ensures.work c.in_ok-begin-in-Some.ensures.tables (c.requires.1.1.1.1.1.1.1 _ there) c.requires.1.1.1.1.1.0 c.requires.1.1.1.1.1.1.0
 
 pub returns-in_ok-begin-in-Some-clause-turning : goal.returns-in_ok-begin-in-Some-clause-turning
 returns-in_ok-begin-in-Some-clause-turning g c =

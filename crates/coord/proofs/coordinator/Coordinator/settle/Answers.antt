@@ -3,7 +3,7 @@ use Rattle.coord.proofs.coordinator.Coordinator.settle.Goals as goal
 use Rattle.std.proofs.Common.{refl}
 
 pub settle-requires : goal.settle-requires
-settle-requires g c = (c.requires.header, (c.requires.ready, λ never. absurd cc))
+settle-requires g c = (c.requires.header, (c.requires.ready, (λ never. absurd cc, c.requires.slots)))
 
 pub returns-clause-acted : goal.returns-clause-acted
 returns-clause-acted g c =
