@@ -1,0 +1,72 @@
+-- An event is cut, and its coordinator goes on working, where its tables stand for what the log has come to by the checks that it goes on with.
+use Rattle.asking_facts.specs.Standing.{StandsAsked}
+use Rattle.log_model.specs.Seen.{Seen}
+use Rattle.seen_laws.proofs.Cuts.{log_cut}
+use Rattle.seen_laws.proofs.InEvents.{none_goes}
+use Rattle.seen_laws.specs.InEvent.{InEvent, cut, log_of, now_of}
+use Rattle.seen_laws.specs.Sending.{leads}
+use Rattle.std.proofs.Common.{Bool, List, Option, [], subst, sym, true, ◌≡◌}
+use Rattle.tab_cuts.specs.Cut.{TiesCut}
+use Rattle.tab_doors.specs.Keeping.{Move}
+use Rattle.tab_doors.specs.Working.{IsAhead, IsAtWorkFor, IsWorker}
+use Rattle.tab_doors.specs.declared.tables.Tables.{Tables}
+use Rattle.tab_ids.specs.declared.ReqId.{ReqId}
+use Rattle.log_model.specs.declared.row_kind.RowKind.{RowKind}
+use Rattle.unasked_dues.proofs.Cut.{sole_cut}
+use Rattle.unasked_dues.proofs.Read.{read_own}
+use Rattle.unasked_dues.specs.Checking.{AreNumbered, NoStepChecks, unasked}
+use Rattle.unasked_dues.specs.Reading.{AreDebts, BeginSole}
+
+-- what the tables know of the event was shown before it is cut
+pub ties_now : (move : Option Move) (e : InEvent) (out : List RowKind) (checking : ReqId → Bool) (due : Seen → Bool) (u : Tables) → TiesCut move (unasked checking (log_of e out)) u → TiesCut move (now_of (cut e out checking due) []) u
+unfolding now_of
+ties_now move e out checking due u ties =
+    subst (λ (s : Seen). TiesCut move (unasked checking s) u) (sym (log_cut e out checking due)) ties
+
+-- the same tables tie, whatever they have of the checks
+pub ties_beside : (move : Option Move) (e : InEvent) (out : List RowKind) (t : Tables) → IsAtWorkFor move e out t → TiesCut move (now_of e out) t
+ties_beside move e out t work =
+    record {
+      holds = work.holds;
+      runs = work.runs;
+      goal = work.goal;
+      few = work.few;
+      initial = work.initial;
+      loads = work.loads;
+      kept = work.kept;
+    }
+
+-- the event is cut behind rows that needn't be seen by the checks so far
+module _ (move : Option Move) (e : InEvent) (out : List RowKind) (checking : ReqId → Bool) (due : Seen → Bool) (u : Tables) (but : ReqId → Bool) where
+  abbrev then_ : InEvent
+  then_ = cut e out checking due
+
+  pub work_behind : leads e.own ≡ true → IsWorker e.actor → AreNumbered e.start → BeginSole e out (log_of e out) → AreDebts then_ → StandsAsked (IsAhead move) but then_ [] (record { checks = u.checks; run = [] }) → TiesCut move (unasked checking (log_of e out)) u → NoStepChecks checking (log_of e out) → IsAtWorkFor move then_ [] u
+  work_behind own worker numbered sole debts stands ties unheld =
+      record {
+        own = own;
+        worker = worker;
+        goes = none_goes then_ [];
+        numbered = numbered;
+        read = read_own then_ (record { numbered = stands.checks.numbered; others = stands.checks.others });
+        sole = subst (λ (end : Seen). BeginSole then_ [] end) (sym (log_cut e out checking due)) (sole_cut e out checking due (log_of e out) sole);
+        debts = debts;
+        checks = stands.checks;
+        unheld = subst (λ (s : Seen). NoStepChecks checking s) (sym (log_cut e out checking due)) unheld;
+        holds = tied.holds;
+        runs = tied.runs;
+        goal = tied.goal;
+        few = tied.few;
+        initial = tied.initial;
+        loads = tied.loads;
+        kept = tied.kept;
+        asked = stands.asked;
+        lawful = stands.pass;
+      }
+    where
+      tied : TiesCut move (now_of then_ []) u
+      tied = ties_now move e out checking due u ties
+
+  -- or behind those that its coordinator has put out so far
+  pub work_cut : {was : Option Move} (t : Tables) → IsAtWorkFor was e out t → AreDebts then_ → StandsAsked (IsAhead move) but then_ [] (record { checks = u.checks; run = [] }) → TiesCut move (unasked checking (log_of e out)) u → NoStepChecks checking (log_of e out) → IsAtWorkFor move then_ [] u
+  work_cut t work = work_behind work.own work.worker work.numbered work.sole
