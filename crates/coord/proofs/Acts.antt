@@ -1,9 +1,9 @@
 -- A document makes something of the first poke of its process, or the process refuses that: the coordinator has acted, which does nothing itself.
 use Rattle.tab_stands.proofs.PassedOn.{rows_slots}
-use Rattle.coord.proofs.Asides.{IsPlain, made_plain, off, one_goes, plain_more, refused_plain, start_lasts}
+use Rattle.coord.proofs.Asides.{IsPlain, made_plain, off, one_goes, plain_more, refused_plain, start_lasts, seen_stands, start_asks}
 use Rattle.coord.specs.Standing.{HasActed, IsOpenTo}
 use Rattle.coord.specs.declared.coordinator.Coordinator.{Coordinator}
-use Rattle.coord.proofs.Idle.{alone_acts, found_now, stands_then, telling_now}
+use Rattle.coord.proofs.Idle.{alone_acts, found_now, stands_then, telling_now, as_idled}
 use Rattle.coord.proofs.Slots.{own_slots}
 use Rattle.log_model.specs.AfterRequests.{is_running}
 use Rattle.log_model.specs.Seen.{Document, desk_of, document_of}
@@ -42,7 +42,7 @@ module _ (e : InEvent) (c : Coordinator) (open_ : IsOpenTo e c) (proc : ProcId) 
     made_acts what makes no_edit own =
         alone_acts e c open_ (rows.Made proc (made_for view poke.req what)) own (made_plain e c open_.in_ proc (made_for view poke.req what) event own) tt tt
         (own_slots e c.slots.entries open_.in_.uncut (rows.Made proc (made_for view poke.req what)) own tt open_.slots)
-        (acts.made_acts e c.tables c.queue c.blame.entries open_.in_.stands.stands (start_lasts e c open_.in_) open_.in_.room proc poke first d view found has runs what makes no_edit open_.in_.uncut by event own)
+        (as_idled e c [] (made_plain e c open_.in_ proc (made_for view poke.req what) event own) (acts.made_acts e c.tables c.queue c.blame.entries (seen_stands e c open_.in_) (start_lasts e c open_.in_) (start_asks e c open_.in_) open_.in_.room proc poke first d view found has runs what makes no_edit open_.in_.uncut by event own))
 
     -- it edits itself, which is applied at once
     pub edit_acts : made_by view poke.action ≡ Some whats.Edit → e.own ≡ rows.Made proc (made_for view poke.req whats.Edit) → HasActed e (rows.Applied poke.req changes.Edit ∷ []) c
@@ -64,10 +64,6 @@ module _ (e : InEvent) (c : Coordinator) (open_ : IsOpenTo e c) (proc : ProcId) 
         out : List RowKind
         out = rows.Applied poke.req changes.Edit ∷ []
 
-        its : tab.HasIdled tab.none_in_check e (rows.Applied poke.req changes.Edit ∷ []) c.tables c.queue c.blame.entries
-        its =
-            edits.edit_acts e c.tables c.queue c.blame.entries open_.in_.stands.stands (start_lasts e c open_.in_) open_.in_.room proc poke first d view found has runs makes (off e c open_.in_ poke.req) open_.in_.uncut by event own
-
         accepted : IsPlain e []
         accepted = made_plain e c open_.in_ proc (made_for view poke.req whats.Edit) event own
 
@@ -82,6 +78,10 @@ module _ (e : InEvent) (c : Coordinator) (open_ : IsOpenTo e c) (proc : ProcId) 
         at : IsPlain e (rows.Applied poke.req changes.Edit ∷ [])
         at =
             plain_more e c open_.in_ [] (rows.Applied poke.req changes.Edit) applied_read accepted
+
+        its : tab.HasIdled tab.none_in_check e (rows.Applied poke.req changes.Edit ∷ []) c.tables c.queue c.blame.entries
+        its =
+            as_idled e c (rows.Applied poke.req changes.Edit ∷ []) at (edits.edit_acts e c.tables c.queue c.blame.entries (seen_stands e c open_.in_) (start_lasts e c open_.in_) (start_asks e c open_.in_) open_.in_.room proc poke first d view found has runs makes open_.in_.uncut by event own)
 
         of_coord : (row : RowKind) → Has (rows.Applied poke.req changes.Edit ∷ []) row → IsOfCoord row
         of_coord row (inl is) = subst (λ (r : RowKind). IsOfCoord r) is tt
@@ -99,11 +99,11 @@ module _ (e : InEvent) (c : Coordinator) (open_ : IsOpenTo e c) (proc : ProcId) 
     no_address_acts none own =
         alone_acts e c open_ (rows.Refused poke.req denials.BadAddress) own (refused_plain e c open_.in_ poke.req denials.BadAddress own) tt tt
         (own_slots e c.slots.entries open_.in_.uncut (rows.Refused poke.req denials.BadAddress) own tt open_.slots)
-        (acts.refused_acts e c.tables c.queue c.blame.entries open_.in_.stands.stands (start_lasts e c open_.in_) open_.in_.room proc poke first denials.BadAddress open_.in_.uncut by event own (acts.no_address_passes e c.tables c.queue c.blame.entries open_.in_.stands.stands (start_lasts e c open_.in_) open_.in_.room proc poke first d view found has runs none))
+        (as_idled e c [] (refused_plain e c open_.in_ poke.req denials.BadAddress own) (acts.refused_acts e c.tables c.queue c.blame.entries (seen_stands e c open_.in_) (start_lasts e c open_.in_) (start_asks e c open_.in_) open_.in_.room proc poke first (off e c open_.in_ poke.req) denials.BadAddress open_.in_.uncut by event own (acts.no_address_passes e c.tables c.queue c.blame.entries (seen_stands e c open_.in_) (start_lasts e c open_.in_) (start_asks e c open_.in_) open_.in_.room proc poke first d view found has runs none)))
 
   -- the poked document is gone, or doesn't run
   pub no_document_acts : is_running e.start poke.doc ≡ false → e.own ≡ rows.Refused poke.req denials.NoDocument → HasActed e [] c
   no_document_acts stopped own =
       alone_acts e c open_ (rows.Refused poke.req denials.NoDocument) own (refused_plain e c open_.in_ poke.req denials.NoDocument own) tt tt
       (own_slots e c.slots.entries open_.in_.uncut (rows.Refused poke.req denials.NoDocument) own tt open_.slots)
-      (acts.refused_acts e c.tables c.queue c.blame.entries open_.in_.stands.stands (start_lasts e c open_.in_) open_.in_.room proc poke first denials.NoDocument open_.in_.uncut by event own (acts.no_document_passes e c.tables c.queue c.blame.entries open_.in_.stands.stands (start_lasts e c open_.in_) open_.in_.room proc poke first stopped))
+      (as_idled e c [] (refused_plain e c open_.in_ poke.req denials.NoDocument own) (acts.refused_acts e c.tables c.queue c.blame.entries (seen_stands e c open_.in_) (start_lasts e c open_.in_) (start_asks e c open_.in_) open_.in_.room proc poke first (off e c open_.in_ poke.req) denials.NoDocument open_.in_.uncut by event own (acts.no_document_passes e c.tables c.queue c.blame.entries (seen_stands e c open_.in_) (start_lasts e c open_.in_) (start_asks e c open_.in_) open_.in_.room proc poke first stopped)))

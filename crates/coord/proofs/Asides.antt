@@ -1,4 +1,6 @@
 -- Nobody was asked so far: so it is once an event's own row was logged, and over rows more that ask nobody.
+use Rattle.tab_stands.proofs.Checked.{unasked_stands}
+use Rattle.tab_stands.specs.Checked.{ChecksStand}
 use Rattle.tab_doors.proofs.Works.{start_here}
 use Rattle.seen_facts.proofs.Doc.Works.{HasNoSlot}
 use Rattle.seen_laws.proofs.Desks.{desk_on_same}
@@ -126,6 +128,10 @@ module _ (e : InEvent) (c : Coordinator) (open_ : IsOpenIn e c) where
   pub off : (req : ReqId) → e.checking req ≡ false
   off req = ap (λ (checking : ReqId → Bool). checking req) open_.unchecked
 
+  -- the table of checks, which has none, stands for the log
+  pub start_asks : ChecksStand e.checking e.start c.tables.checks
+  start_asks = unasked_stands e.checking e.start c.tables.checks off start_plain start_lasts.checks open_.stands.unchecked
+
   -- a row that asks nobody
   module _ (kind : RowKind) (own : e.own ≡ kind) (read : unasked e.checking (after s (row_of e kind)) ≡ after (unasked e.checking s) (row_of e kind)) where
     read_own : unasked e.checking (log_of e []) ≡ log_of e []
@@ -220,20 +226,18 @@ module _ (e : InEvent) (c : Coordinator) (open_ : IsOpenIn e c) where
       apart : (s.events == (e.event + 1)) ≡ false
       apart = grind (arith, nat_tests, event)
 
-  -- an order is taken up, which waits first
+  -- an order that waits first asks nobody
+  pub mail_asks : (proc : ProcId) (job : Job) → slice_get (desk_of s proc).mail 0 ≡ Some job → is_question job.task ≡ false
+  mail_asks proc job first =
+      not_true (is_question job.task) (all_kept (λ (x : Job). not (is_question x.task)) (desk_of s proc).mail job (ap (λ (desk : Desk). desk.mail) (desk_plain proc)) first)
+
+  -- it is taken up
   pub taken_plain : (proc : ProcId) (nr : JobId) (live dirty : Bool) (job : Job) → slice_get (desk_of s proc).mail 0 ≡ Some job → e.own ≡ rows.Taken proc nr live dirty → IsPlain e []
   taken_plain proc nr live dirty job first own =
-      plain_own (rows.Taken proc nr live dirty) own (taken_seen e.checking s e.event e.actor proc nr live dirty job first no_question)
-    where
-      waits : not (is_question job.task) ≡ true
-      waits =
-          all_kept (λ (x : Job). not (is_question x.task)) (desk_of s proc).mail job (ap (λ (desk : Desk). desk.mail) (desk_plain proc)) first
-
-      no_question : is_question job.task ≡ false
-      no_question = not_true (is_question job.task) waits
+      plain_own (rows.Taken proc nr live dirty) own (taken_seen e.checking s e.event e.actor proc nr live dirty job first (mail_asks proc job first))
 
   -- the order in hand asks nobody
-  hand_asks : (proc : ProcId) (order : Order) → (desk_of s proc).in_hand ≡ Some order → is_question order.job.task ≡ false
+  pub hand_asks : (proc : ProcId) (order : Order) → (desk_of s proc).in_hand ≡ Some order → is_question order.job.task ≡ false
   hand_asks proc order hand = by_test (is_question order.job.task) refl
     where
       kept : option_and_then no_question_in_hand (Some order) ≡ Some order

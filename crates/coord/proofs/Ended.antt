@@ -20,7 +20,12 @@ use Rattle.tab_facts.specs.Order.Orders.{IsOfCoord}
 use Rattle.seen_laws.specs.InEvent.{InEvent, IsTakenIn, log_of, now_of, row_of, later_of}
 use Rattle.std.proofs.Common.{Bool, List, [], ap, false, inl, inr, map, subst, sym, ℕ, ◌∙◌, ◌≡◌, ◌⊎◌, Some, true}
 use Rattle.tab_loads.specs.Loading.{pass_of}
-use Rattle.tab_stands.proofs.Ended.{acted}
+use Rattle.asking_facts.proofs.Ones.{told_outside}
+use Rattle.asking_facts.specs.Noting.{IsAllTied}
+use Rattle.tab_doors.specs.PassedOn.{told_by}
+use Rattle.tab_stands.proofs.Checked.{none_tied}
+use Rattle.tab_stands.specs.Checked.{told_all}
+use Rattle.tab_stands.proofs.Ended.{acted, as_stands}
 use Rattle.tab_stands.proofs.PassedOn.{IsNoneDue, leaves_unsettled, put_makes, put_sound, none_asked, put_slots}
 use Rattle.tab_stands.proofs.Placing.{either_of}
 use Rattle.tab_stands.specs.PassedOn.{HasPut, HasSettled, LeavesOff, IsOver}
@@ -48,7 +53,7 @@ settled_acts e was out c after cause last to header slots at due put left =
     record {
       stands = record {
         but = record {
-          stands = subst (λ (x : Seen). tab.StandsFor tab.none_in_check x after.tables after.queue after.blame.entries) (sym plain_out) all.stands;
+          stands = subst (λ (x : Seen). tab.StandsFor tab.none_in_check x after.tables after.queue after.blame.entries) (sym plain_out) (as_stands tab.none_in_check (now_of e out) after.tables (told_all after.tables.checks out) after.queue after.blame.entries all.stands);
           keep = at.header ∙ ap (λ (h : Header). h.keep) (sym (header ∙ to.header));
           lasts = subst (λ (checking : ReqId → Bool). tab.LastsInLog checking (log_of e out)) to.unchecked all.lasts;
           unchecked = none_before after.tables.checks out (λ req. at.passing.work.asked.within req (off req));
@@ -85,6 +90,11 @@ settled_acts e was out c after cause last to header slots at due put left =
         let never : false ≡ true = sym (ap (λ (l : List Question). is_some (slice_get l 0)) nobody_due) ∙ asks.first.asks in
         absurd cc
 
-    all : tab.HasActed tab.none_in_check e out after.tables after.queue after.blame.entries
+    -- no check is in the table
+    settled_all : IsAllTied (log_of e out) (told_all after.tables.checks out)
+    settled_all =
+        none_tied (log_of e out) (told_all after.tables.checks out) (λ req. told_outside e.checking e.start (log_of e out) (told_by after.tables.checks out) at.passing.work.asked req (off req))
+
+    all : tab.HasActed tab.none_in_check e out (record after.tables { checks = told_all after.tables.checks out }) after.queue after.blame.entries
     all =
-        acted (pass_of e []) out after.tables after.queue after.blame.entries last false (λ never. absurd cc) at (put_makes e after.tables.running was out at.passing.work.goes at.passing.going.tab.asked put to.makes) (put_sound e was out at.passing.work.goes put to.sound) (of_coord e was out put to.coord) to.shows to.starts (λ free. none_due due) (taken_in e was out put to.taken)
+        acted (pass_of e []) out after.tables after.queue after.blame.entries last false (λ never. absurd cc) at (put_makes e after.tables.running was out at.passing.work.goes at.passing.going.tab.asked put to.makes) (put_sound e was out at.passing.work.goes put to.sound) (of_coord e was out put to.coord) to.shows to.known settled_all (λ free. none_due due) (taken_in e was out put to.taken)

@@ -130,6 +130,7 @@ module _ (e : InEvent) (state : StateId) (c : Coordinator) (open_ : IsOpenTo e c
           coord = λ row has. (fine row has).coord;
           unmoved = fine_moves (now_of e out) (now_of e out) whys.Evict out fine;
           shows = shows;
+          known = lasts_log.known;
           taken = λ later. evicted_takes e state asks (later_of e out ++ later);
           found = found;
           telling = telling;

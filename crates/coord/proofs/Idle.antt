@@ -1,5 +1,6 @@
 -- An event in which the coordinator itself does nothing, and which changes nothing: where its tables, its queue and its notes stand for the log after the event's rows, and fragment orders find their documents running, it has acted.
-use Rattle.coord.proofs.Asides.{IsPlain, off}
+use Rattle.log_model.specs.Seen.{Seen}
+use Rattle.coord.proofs.Asides.{IsPlain}
 use Rattle.tab_doors.proofs.Uncut.{uncut_now}
 use Rattle.coord.proofs.Fines.{AppliesNone}
 use Rattle.coord.specs.Standing.{HasActed, IsOpenIn, IsOpenTo, StandsFor}
@@ -43,6 +44,15 @@ stands_then e c open_ out stands lasts at found telling slots =
         telling = subst AreTelling (sym at.same) telling;
       };
       slots = slots;
+    }
+
+-- what the tables stand for without questions they stand for
+pub as_idled : (e : InEvent) (c : Coordinator) (out : List RowKind) → IsPlain e out → tab.HasActed tab.none_in_check e out c.tables c.queue c.blame.entries → tab.HasIdled tab.none_in_check e out c.tables c.queue c.blame.entries
+as_idled e c out at acted =
+    record {
+      stands = subst (λ (x : Seen). tab.StandsFor tab.none_in_check x c.tables c.queue c.blame.entries) (sym at.same) acted.stands;
+      lasts = acted.lasts;
+      passes = acted.passes;
     }
 
 pub idle_acts : (e : InEvent) (c : Coordinator) → IsOpenTo e c → (out : List RowKind) → ApplyNone out → tab.HasIdled tab.none_in_check e out c.tables c.queue c.blame.entries → IsPlain e out → AreFoundRunning (now_of e out) → AreTelling (now_of e out) → AreSlots (log_of e out) c.slots.entries → HasActed e out c

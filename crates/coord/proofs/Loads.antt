@@ -244,6 +244,7 @@ module _ (e : InEvent) (c : Coordinator) (open_ : IsOpenTo e c) (req : ReqId) (n
         coord = load_coord e c.tables c.queue c.blame.entries (seen_stands e c open_.in_) req nav mode address load_asks load_lasts out after.tables after.blame.entries loaded came after.queue ready;
         unmoved = load_moves e c.tables c.queue c.blame.entries (seen_stands e c open_.in_) req nav mode address load_asks load_lasts out after.tables after.blame.entries loaded came after.queue ready;
         shows = load_shows e c.tables c.queue c.blame.entries (seen_stands e c open_.in_) req nav mode address load_asks load_lasts;
+        known = load_lasts.known;
         taken = load_taken e c.tables c.queue c.blame.entries (seen_stands e c open_.in_) req nav mode address load_asks load_lasts out;
         found = load_found e c.tables c.queue c.blame.entries (seen_stands e c open_.in_) req nav mode address load_asks load_lasts out after.tables after.blame.entries loaded came after.queue ready (accepted_found e c open_.in_ req None (requests.Load nav mode address) asked.own);
         telling = load_telling e c.tables c.queue c.blame.entries (seen_stands e c open_.in_) req nav mode address load_asks load_lasts out after.tables after.blame.entries loaded came after.queue ready (accepted_telling e c open_.in_ req None (requests.Load nav mode address) asked.own);

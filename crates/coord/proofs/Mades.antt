@@ -1,6 +1,8 @@
 -- A document made something: a traversal that has joined the queue, or a change that is held back or was taken; and the tab may be brought to rest.
+use Rattle.tab_doors.specs.Working.{StartsPlain}
+use Rattle.tab_doors.proofs.Works.{none_steps}
 use Rattle.tab_stands.proofs.Logged.{own_read}
-use Rattle.coord.proofs.Asides.{delivered_aside, seen_delivery, seen_room, seen_stands}
+use Rattle.coord.proofs.Asides.{delivered_aside, seen_delivery, seen_room, seen_stands, off}
 use Rattle.coord.proofs.Causes.{for_none}
 use Rattle.coord.proofs.Dones.{keep_now, to_settle}
 use Rattle.coord.proofs.Loads.{ended_put}
@@ -55,6 +57,9 @@ module _ (d : InDelivery) (c : Coordinator) (made : Made) (its : IsMade d c made
   aside : IsOwnRead e
   aside = own_read e (delivered_aside e c its.open_ d.proc d.report its.delivery)
 
+  plain : StartsPlain e
+  plain = (delivered_aside e c its.open_ d.proc d.report its.delivery).plain
+
   heard : IsSeenDelivery e d.proc d.report
   heard = seen_delivery e c its.open_ d.proc d.report its.delivery
 
@@ -75,7 +80,7 @@ module _ (d : InDelivery) (c : Coordinator) (made : Made) (its : IsMade d c made
 
   pub joined_settles : (delta : ℤ) → made.what ≡ whats.Go delta → (left : Queue) → left ≡ record c.queue { waiting = c.queue.waiting ++ Traverse made.req delta ∷ [] } → IsToSettle d.event [] (record c { queue = left }) whys.Start
   joined_settles delta goes left pushed =
-      to_settle e (record c { queue = left }) its.open_.header its.open_.unchecked logged.plain (joined_begun e d.proc d.report made heard its.tells c.tables c.queue c.blame.entries stands aside delta goes logged room (keep_now e c its.open_) left pushed) whys.Start (for_none (now_of e []))
+      to_settle e (record c { queue = left }) its.open_.header its.open_.unchecked plain logged.lasts.known (joined_begun e d.proc d.report made heard its.tells c.tables c.queue c.blame.entries stands aside delta goes logged room (keep_now e c its.open_) left pushed) whys.Start (for_none (now_of e []))
       (went_takes e d.proc d.report made heard its.tells c.tables c.queue c.blame.entries stands aside delta goes) found_now telling_now its.slots
 
   -- ---- a change
@@ -93,7 +98,7 @@ module _ (d : InDelivery) (c : Coordinator) (made : Made) (its : IsMade d c made
 
       pub parked_settles : (left : Queue) → left ≡ record c.queue { parked = c.queue.parked ++ made ∷ [] } → IsToSettle d.event [] (record c { queue = left }) whys.Start
       parked_settles left parked =
-          to_settle e (record c { queue = left }) its.open_.header its.open_.unchecked logged.plain (parked_begun e d.proc d.report made heard its.tells c.tables c.queue c.blame.entries stands aside (changes_no_go made.what changes) held logged room (keep_now e c its.open_) left parked) whys.Start (for_none (now_of e []))
+          to_settle e (record c { queue = left }) its.open_.header its.open_.unchecked plain logged.lasts.known (parked_begun e d.proc d.report made heard its.tells c.tables c.queue c.blame.entries stands aside (changes_no_go made.what changes) held logged room (keep_now e c its.open_) left parked) whys.Start (for_none (now_of e []))
           (held_takes e d.proc d.report made heard its.tells c.tables c.queue c.blame.entries stands aside held) found_now telling_now its.slots
 
     -- it doesn't
@@ -136,17 +141,18 @@ module _ (d : InDelivery) (c : Coordinator) (made : Made) (its : IsMade d c made
             record {
               header = header ∙ its.open_.header;
               unchecked = its.open_.unchecked;
-              starts = logged.plain;
+              starts = plain;
               ready =
                   subst (λ (l : List (StateId × ReqId)). IsReady (pass_of d.event []) out after.tables after.queue l (whys.Req made.req)) (sym blame)
                   (subst (λ (q : Queue). IsReady (pass_of d.event []) out after.tables q noted (whys.Req made.req)) (sym queue)
                   (subst (λ (t : Tables). IsReady (pass_of d.event []) out t c.queue noted (whys.Req made.req)) (sym tables)
-                  (taken_ready e d.proc d.report made heard its.tells c.tables c.queue c.blame.entries stands aside changes free logged room (keep_now e c its.open_) out u noted taken)));
+                  (taken_ready e d.proc d.report made heard its.tells c.tables c.queue c.blame.entries stands aside changes free logged room (keep_now e c its.open_) out u noted taken (λ held. none_steps e.checking (off e c its.open_) (log_of e [])))));
               makes = taken_makes;
               sound = taken_sound;
               coord = λ row has. put.each row (subst (λ (l : List RowKind). Has l row) put.is has);
               unmoved = taken_unmoved;
               shows = begun.shows;
+              known = logged.lasts.known;
               taken = taken_up e d.proc d.report made heard its.tells c.tables c.queue c.blame.entries stands aside changes free logged room (keep_now e c its.open_) out u noted taken;
               found = taken_found;
               telling = taken_telling;

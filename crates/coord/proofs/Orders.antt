@@ -1,10 +1,12 @@
 -- A process takes up an order, or finishes one: the coordinator has acted, which does nothing itself.
+use Rattle.log_model.specs.Suits.{is_slotted}
+use Rattle.log_model.specs.declared.header.Header.{Header}
 use Rattle.tab_stands.proofs.PassedOn.{row_slots}
-use Rattle.coord.proofs.Asides.{finished_plain, joined_goes, joined_plain, one_goes, start_lasts, taken_plain}
+use Rattle.coord.proofs.Asides.{finished_plain, joined_goes, joined_plain, one_goes, start_lasts, taken_plain, hand_asks, mail_asks, seen_stands, start_asks}
 use Rattle.tab_doors.proofs.Uncut.{uncut_now}
 use Rattle.coord.specs.Standing.{HasActed, IsOpenTo}
 use Rattle.coord.specs.declared.coordinator.Coordinator.{Coordinator}
-use Rattle.coord.proofs.Idle.{alone_acts, found_now, idle_acts}
+use Rattle.coord.proofs.Idle.{alone_acts, found_now, idle_acts, as_idled}
 use Rattle.coord.proofs.Slots.{finished_own, own_slots}
 use Rattle.seen_facts.proofs.Coord.Unread.{next}
 use Rattle.seen_facts.specs.Desk.Own.{IsFragmentTask}
@@ -33,7 +35,6 @@ use Rattle.std.proofs.Common.{Bool, List, None, Option, Some, [], ap, refl, subs
 use Rattle.std.specs.Prelude.{slice_get}
 use Rattle.tab_acts.proofs.Fragments as fragments
 use Rattle.tab_acts.proofs.Orders as orders
-use Rattle.tab_acts.specs.Pages.{HasNoPages}
 use Rattle.tab_ids.specs.declared.ProcId.{ProcId}
 use Rattle.tab_ids.specs.declared.ReqId.{ReqId}
 use Rattle.tab_facts.proofs.TabWhole.Fragments.{IsToFragment}
@@ -67,6 +68,22 @@ fragmented req mode address outcomes.Frozen never = absurd never
 fragmented req mode address outcomes.Discarded never = absurd never
 fragmented req mode address (outcomes.Asked verdict) never = absurd never
 
+-- where no page has a handler no outcome has a slot
+slotted_none : (header : Header) → header.pages ≡ [] → (task : Task) (outcome : Outcome) → HasNoSlot outcome → is_slotted header task outcome ≡ true
+slotted_none header pages (tasks.Populate nav state address initial) (outcomes.Populated slot) none = rw none (rw pages refl)
+slotted_none header pages (tasks.Populate nav state address initial) outcomes.Activated none = refl
+slotted_none header pages (tasks.Populate nav state address initial) outcomes.Updated none = refl
+slotted_none header pages (tasks.Populate nav state address initial) outcomes.Frozen none = refl
+slotted_none header pages (tasks.Populate nav state address initial) outcomes.Discarded none = refl
+slotted_none header pages (tasks.Populate nav state address initial) outcomes.Fragmented none = refl
+slotted_none header pages (tasks.Populate nav state address initial) (outcomes.Asked verdict) none = refl
+slotted_none header pages (tasks.Activate entry epoch length index memo address) outcome none = refl
+slotted_none header pages (tasks.Update length index) outcome none = refl
+slotted_none header pages tasks.Freeze outcome none = refl
+slotted_none header pages tasks.Discard outcome none = refl
+slotted_none header pages (tasks.Ask slot cause) outcome none = refl
+slotted_none header pages (tasks.DoFragment req mode address) outcome none = refl
+
 module _ (e : InEvent) (c : Coordinator) (open_ : IsOpenTo e c) (proc : ProcId) (by : e.actor ≡ actors.Proc proc) where
   -- ---- an order is taken up: nothing is in hand, and it is the first
 
@@ -74,7 +91,7 @@ module _ (e : InEvent) (c : Coordinator) (open_ : IsOpenTo e c) (proc : ProcId) 
   taken_acts job dirty free first event is_dirty own =
       alone_acts e c open_ (rows.Taken proc job.nr true dirty) own (taken_plain e c open_.in_ proc job.nr true dirty job first own) (record { live_is = refl; free = free; job = job; first = first }) tt
       (own_slots e c.slots.entries open_.in_.uncut (rows.Taken proc job.nr true dirty) own tt open_.slots)
-      (orders.taken_acts e c.tables c.queue c.blame.entries open_.in_.stands.stands (start_lasts e c open_.in_) open_.in_.room proc job dirty free first open_.in_.uncut by event is_dirty own)
+      (as_idled e c [] (taken_plain e c open_.in_ proc job.nr true dirty job first own) (orders.taken_acts e c.tables c.queue c.blame.entries (seen_stands e c open_.in_) (start_lasts e c open_.in_) (start_asks e c open_.in_) open_.in_.room proc job dirty free first (mail_asks e c open_.in_ proc job first) open_.in_.uncut by event is_dirty own))
 
   -- ---- one is finished, which is in hand; the outcome is one of its task
 
@@ -88,12 +105,12 @@ module _ (e : InEvent) (c : Coordinator) (open_ : IsOpenTo e c) (proc : ProcId) 
         }
 
     -- one that is no fragment order
-    pub finished_acts : IsNoFragment order.job.task → HasNoPages e.header → e.event ≡ e.start.events → e.own ≡ rows.Finished proc order.job.nr outcome → HasActed e [] c
+    pub finished_acts : IsNoFragment order.job.task → e.header.pages ≡ [] → e.event ≡ e.start.events → e.own ≡ rows.Finished proc order.job.nr outcome → HasActed e [] c
     finished_acts other pages event own =
         alone_acts e c open_ (rows.Finished proc order.job.nr outcome) own (finished_plain e c open_.in_ proc order outcome hand bare own) is_up
         (λ x there fragment. no_fragment order.job.task other (subst (λ (y : Order). IsFragmentTask y.job.task) (some_same (sym there ∙ hand)) fragment))
         (finished_own e c open_ proc order outcome hand its own)
-        (orders.finished_acts e c.tables c.queue c.blame.entries open_.in_.stands.stands (start_lasts e c open_.in_) open_.in_.room proc order outcome hand its bare other pages open_.in_.uncut by event own)
+        (as_idled e c [] (finished_plain e c open_.in_ proc order outcome hand bare own) (orders.finished_acts e c.tables c.queue c.blame.entries (seen_stands e c open_.in_) (start_lasts e c open_.in_) (start_asks e c open_.in_) open_.in_.room proc order outcome hand its (hand_asks e c open_.in_ proc order hand) other (slotted_none e.header pages order.job.task outcome bare) open_.in_.uncut by own))
 
 -- ---- a fragment order
 
@@ -141,7 +158,7 @@ module _ (e : InEvent) (c : Coordinator) (open_ : IsOpenTo e c) (proc : ProcId) 
       pub fragment_acts : HasActed e (rows.Made proc (made_for view req (fragment_of view mode address)) ∷ []) c
       fragment_acts =
           idle_acts e c open_ (rows.Made proc made ∷ []) (tt, tt)
-          (fragments.fragment_acts e c.tables c.queue c.blame.entries open_.in_.stands.stands (start_lasts e c open_.in_) open_.in_.room proc order req mode address d view to open_.in_.uncut by (own ∙ ap (λ (o : Outcome). rows.Finished proc order.job.nr o) so))
+          (as_idled e c (rows.Made proc made ∷ []) (joined_plain e c open_.in_ proc order outcome hand bare own made) (fragments.fragment_acts e c.tables c.queue c.blame.entries (seen_stands e c open_.in_) (start_lasts e c open_.in_) (start_asks e c open_.in_) open_.in_.room proc order req mode address d view to open_.in_.uncut by (own ∙ ap (λ (o : Outcome). rows.Finished proc order.job.nr o) so)))
           (joined_plain e c open_.in_ proc order outcome hand bare own made)
           found_then telling_then
           (row_slots e c.slots.entries [] (rows.Made proc made) tt (finished_own e c open_ proc order outcome hand its own))

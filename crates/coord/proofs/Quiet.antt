@@ -1,9 +1,9 @@
 -- An order was done that neither made nor showed a document: where no request is noted for a document that is left to be discarded, the event is over.
 use Rattle.log_model.specs.Seen.{Seen}
 use Rattle.log_model.specs.declared.made.Report.TheVariants as reports
-use Rattle.coord.proofs.Asides.{IsPlain, delivered_plain, off, seen_room}
+use Rattle.coord.proofs.Asides.{IsPlain, delivered_plain, start_asks, start_lasts}
 use Rattle.coord.proofs.Idle.{stands_then}
-use Rattle.coord.proofs.Dones.{done_found, done_logged, done_read, done_seen, done_stands, done_telling, keep_now}
+use Rattle.coord.proofs.Dones.{done_found, done_seen, done_stands, done_telling}
 use Rattle.coord.specs.Delivering.{InDone, IsDone}
 use Rattle.coord.specs.Standing.{HasActed}
 use Rattle.coord.specs.declared.coordinator.Coordinator.{Coordinator}
@@ -16,7 +16,7 @@ use Rattle.tab_stands.specs.Standing as tab
 module _ (d : InDone) (c : Coordinator) (job : Job) (done : IsDone d c job) (quiet : IsQuietTask job.task) (clear : c.blame.entries ≡ []) where
   its : tab.HasActed tab.none_in_check d.event [] c.tables c.queue c.blame.entries
   its =
-      told_acts d.event d.proc job d.outcome (done_seen d c job done) c.tables c.queue c.blame.entries (done_stands d c job done) (done_read d c job done) quiet (done_logged d c job done) (seen_room d.event c done.open_) (keep_now d.event c done.open_) clear
+      told_acts d.event d.proc job d.outcome (done_seen d c job done) c.tables c.queue c.blame.entries (done_stands d c job done) (start_lasts d.event c done.open_) (start_asks d.event c done.open_) done.open_.room done.open_.uncut quiet clear
 
   at : IsPlain d.event []
   at = delivered_plain d.event c done.open_ d.proc (reports.Done job d.outcome None) done.delivery

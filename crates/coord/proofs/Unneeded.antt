@@ -1,7 +1,7 @@
 -- A document that nothing needs was made for no request: it is discarded, and the tab may be brought to rest.
 use Rattle.coord.proofs.Asides.{one_goes}
 use Rattle.unasked.proofs.Nows.{sent_goes}
-use Rattle.coord.proofs.Dones.{done_found, done_logged, done_read, done_seen, done_stands, done_taken, done_telling}
+use Rattle.coord.proofs.Dones.{done_found, done_logged, done_read, done_seen, done_stands, done_taken, done_telling, done_aside}
 use Rattle.coord.proofs.Fines.{IsFine, fine_discard, fine_moves, makes_over, one_fine, sound_over}
 use Rattle.coord.proofs.Placed.{Makes, makes_of}
 use Rattle.coord.specs.Delivering.{InDone, IsDone, made_in}
@@ -146,7 +146,7 @@ module _ (d : InDone) (c : Coordinator) (job : Job) (done : IsDone d c job) (sta
         record {
           header = header ∙ done.open_.header;
           unchecked = done.open_.unchecked;
-          starts = (done_logged d c job done).plain;
+          starts = (done_aside d c job done).plain;
           ready =
               subst (λ (l : List (StateId × ReqId)). IsReady (pass_of e []) out after.tables after.queue l whys.Start) (sym noted)
               (subst (λ (q : Queue). IsReady (pass_of e []) out after.tables q c.blame.entries whys.Start) (sym queue)
@@ -156,6 +156,7 @@ module _ (d : InDone) (c : Coordinator) (job : Job) (done : IsDone d c job) (sta
           coord = λ row has. (fine row has).coord;
           unmoved = fine_moves (now_of e out) (now_of e out) whys.Start out fine;
           shows = shows;
+          known = (done_logged d c job done).lasts.known;
           taken = λ later. done_taken d c job done (later_of e out ++ later);
           found = found;
           telling = telling;

@@ -1,5 +1,6 @@
 -- What a coordinator keeps between two events, and what it has done as an event ends.
 -- HTML Standard, "session history traversal queue", "navigate" and "checking if unloading is canceled"; that nobody is asked and nobody dies is this project's own premise today.
+use Rattle.asking_facts.specs.Known.{AskingKnown}
 use Rattle.tab_doors.specs.Working.{StartsPlain}
 use Rattle.seen_laws.specs.Unasked.{unasked}
 use Rattle.coord.specs.declared.ask.Ask.{Ask}
@@ -88,7 +89,7 @@ pub record HasActed (e : InEvent) (out : List RowKind) (c : Coordinator) : Type 
   pub passes : EachPass (start_of e) (rows_of e out) []
   pub off : ChangesLeaveOff (log_of e out) out
 
--- a pass may follow, for this cause; no request is in a check, and nobody was asked as the event's own row was logged; what was delivered was taken up, if it was to be; the rows so far are a coordinator's, and move nobody; orders that make documents are for what orders may be for, and all are sound; as the event began each document shown was shown under its navigable's epoch; fragment orders find their documents running, and reports of them tell of what was made; and the coordinator's slots are those of the log
+-- a pass may follow, for this cause; no request is in a check, and nobody was asked as the event's own row was logged; what was delivered was taken up, if it was to be; the rows so far are a coordinator's, and move nobody; orders that make documents are for what orders may be for, and all are sound; as the event began each document shown was shown under its navigable's epoch, and what is known of questions, prompts and answers was known; fragment orders find their documents running, and reports of them tell of what was made; and the coordinator's slots are those of the log
 pub record IsToSettle (e : InEvent) (out : List RowKind) (c : Coordinator) (cause : Why) : Type 0 where
   pub header : c.header ≡ e.header
   pub unchecked : e.checking ≡ nobody
@@ -99,6 +100,7 @@ pub record IsToSettle (e : InEvent) (out : List RowKind) (c : Coordinator) (caus
   pub coord : (row : RowKind) → Has out row → IsOfCoord row
   pub unmoved : MoveNobody (now_of e out) out
   pub shows : AreShownUnder (log_of e [])
+  pub known : AskingKnown (log_of e [])
   pub taken : IsTakenUp e out
   pub found : AreFoundRunning (now_of e out)
   pub telling : AreTelling (now_of e out)

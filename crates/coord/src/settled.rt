@@ -41,6 +41,7 @@ impl Coordinator {
             out,
             &mut reasons,
             false,
+            false,
         )?;
         self.logged = reasons.logged;
         Ok(())

@@ -26,7 +26,7 @@ use Rattle.navigate_core.specs.Navigations.{change_for}
 use Rattle.seen_laws.proofs.InEvents.{led_here, now_is}
 use Rattle.seen_laws.specs.Blocks.{MayLog}
 use Rattle.seen_laws.specs.InEvent.{Anything, InEvent, here_of, log_of, now_of, row_of}
-use Rattle.std.proofs.Common.{Bool, List, None, Option, Some, [], ap, arith, cond, false, length, map, refl, subst, sym, true, ℕ, ◌++◌, ◌+◌, ◌==◌, ◌∙◌, ◌∷◌, ◌≡◌, ◌≤◌}
+use Rattle.std.proofs.Common.{Bool, List, None, Option, Some, [], ap, arith, cond, false, inl, length, map, refl, subst, sym, true, ℕ, ◌++◌, ◌+◌, ◌==◌, ◌∙◌, ◌∷◌, ◌≡◌, ◌≤◌}
 use Rattle.std.proofs.lemmas.List.{length-map}
 use Rattle.std.specs.Prelude.{if◌then◌else◌}
 use Rattle.step_index.specs.Held.{history_held}
@@ -45,6 +45,7 @@ use Rattle.tab_doors.specs.Ending.{destroy_all}
 use Rattle.tab_doors.specs.Look.{Look, Sight, look_of, sight, sight_in}
 use Rattle.tab_doors.specs.Ties.{AreInitial, Holds}
 use Rattle.tab_doors.specs.Working.{IsAtWork}
+use Rattle.unasked_dues.specs.Checking.{NoStepChecks}
 use Rattle.tab_doors.specs.declared.tables.Tables.{Tables}
 use Rattle.tab_ids.specs.declared.DocId.{DocId}
 use Rattle.tab_ids.specs.declared.EntryId.{EntryId}
@@ -64,19 +65,19 @@ sights_none doc g (d ∷ documents) none = by_test (d.nr.0 == doc.0) refl none (
     by_test false is there more = rw is (ap (λ (l : List Sight). d ∷ l) (more there))
 
 -- of the log itself
-apply_log : (e : InEvent) (out : List RowKind) (req : ReqId) (nav : NavId) (change : Change) {t : Tables} → IsAtWork e out t → (due : IsApplyDue e out req nav change) → (q : Asked) × (due.asked ≡ without_asks q) × IsLoadToApply (log_of e out) req nav due.mode due.address q change
-apply_log e out req nav change {t} work due =
-    load_to_apply e.checking (log_of e out) (aimed_log e out t work) work.unheld req nav due.mode due.address due.asked change (at_seen e out t work (λ (s : Seen). IsLoadToApply s req nav due.mode due.address due.asked change) due.due)
+apply_log : (e : InEvent) (out : List RowKind) (req : ReqId) (nav : NavId) (change : Change) {t : Tables} → IsAtWork e out t → NoStepChecks e.checking (log_of e []) → (due : IsApplyDue e out req nav change) → (q : Asked) × (due.asked ≡ without_asks q) × IsLoadToApply (log_of e out) req nav due.mode due.address q change
+apply_log e out req nav change {t} work free due =
+    load_to_apply e.checking (log_of e out) (aimed_log e out t work) (work.unheld free) req nav due.mode due.address due.asked change (at_seen e out t work (λ (s : Seen). IsLoadToApply s req nav due.mode due.address due.asked change) due.due)
 
 -- the row passes whatever comes later
-apply_may : (e : InEvent) (out : List RowKind) (req : ReqId) (nav : NavId) (change : Change) {t : Tables} → IsAtWork e out t → IsApplyDue e out req nav change → MayLog (here_of e out) (row_of e (rows.Applied req change) ∷ []) Anything
-apply_may e out req nav change work due = by_log (apply_log e out req nav change work due)
+apply_may : (e : InEvent) (out : List RowKind) (req : ReqId) (nav : NavId) (change : Change) {t : Tables} → IsAtWork e out t → NoStepChecks e.checking (log_of e []) → IsApplyDue e out req nav change → MayLog (here_of e out) (row_of e (rows.Applied req change) ∷ []) Anything
+apply_may e out req nav change work free due = by_log (apply_log e out req nav change work free due)
   where
     by_log : (q : Asked) × (due.asked ≡ without_asks q) × IsLoadToApply (log_of e out) req nav due.mode due.address q change → MayLog (here_of e out) (row_of e (rows.Applied req change) ∷ []) Anything
     by_log from =
         load_may (here_of e out) e.event e.actor req nav due.mode due.address from.0 change (led_here e out work.own) from.2
 
-module _ (e : InEvent) (out : List RowKind) (t : Tables) (nav : NavId) (load : Load) (over : EntryId) (nr : ℕ) (work : IsAtWork e out t) where
+module _ (e : InEvent) (out : List RowKind) (t : Tables) (nav : NavId) (load : Load) (over : EntryId) (nr : ℕ) (work : IsAtWork e out t) (free : NoStepChecks e.checking (log_of e [])) where
   abbrev entry : EntryId
   entry = record { maker = 0; nr = nr }
 
@@ -154,11 +155,11 @@ module _ (e : InEvent) (out : List RowKind) (t : Tables) (nav : NavId) (load : L
         step_plain e out (rows.Applied load.req (change_by b)) (λ r. refl) (ends_other e out (rows.Applied load.req (change_by b)) load.req (refl, λ s. refl) due.unheld due.unparked) may
       where
         may : MayLog (here_of e out) (row_of e (rows.Applied load.req (change_by b)) ∷ []) Anything
-        may = apply_may e out load.req nav (change_by b) work due
+        may = apply_may e out load.req nav (change_by b) work free due
 
     -- the load is ongoing, and isn't in its check
     from : (q : Asked) × (due.asked ≡ without_asks q) × IsLoadToApply (log_of e out) load.req nav due.mode due.address q (change_by b)
-    from = apply_log e out load.req nav (change_by b) work due
+    from = apply_log e out load.req nav (change_by b) work free due
 
     going : is_ongoing_load from.0 ≡ true
     going = rw (from.2.started, from.2.open_, from.2.what) refl
@@ -191,25 +192,26 @@ module _ (e : InEvent) (out : List RowKind) (t : Tables) (nav : NavId) (load : L
         (off, open_undropped (log_of e out) load.req from.0 from.2.at from.2.open_)
         apply_step
         refl
+        (inl refl)
       where
         few_kept : (documents next_ : List Document) (jobs : ℕ) → length next_ ≡ length documents → length documents ≤ jobs + 1 → length next_ ≤ jobs + 1
         few_kept documents next_ jobs same few = omega (arith, same, few)
 
 -- so it is of the tables after the change's door
-pub applied_done : (e : InEvent) (out : List RowKind) (t mid : Tables) (nav : NavId) (load : Load) (over : EntryId) (change : Change) (gone : List NavId) (next : List Load) → IsAtWork e out t → ongoing_load nav t.loads ≡ Some load → change ≡ change_for load over (record { maker = 0; nr = t.entries + 1 }) → IsApplyDue e out load.req nav change → SeesRows (now_of e out) change → sight_in (map sight (now_of e out).documents) (record { 0 = 0 }) ≡ None → is_this t.running load.req ≡ false → mid ≡ record t { store = mid.store } → SameHistory (history_held mid.store) (applied (now_of e out).history change) → gone ≡ lost_of (history_held t.store).rows (history_held mid.store).rows (made_in t.tree) → next ≡ cancelled nav mid.loads → KeepsOthers nav mid.loads next → IsAtWork e (out ++ rows.Applied load.req change ∷ []) (record mid { tree = destroy_all gone load.req mid.tree; entries = mid.entries + 1; loads = next })
-applied_done e out t mid nav load over change gone next work at change_is due sees no_maker apart rest history is loads others =
+pub applied_done : (e : InEvent) (out : List RowKind) (t mid : Tables) (nav : NavId) (load : Load) (over : EntryId) (change : Change) (gone : List NavId) (next : List Load) → IsAtWork e out t → NoStepChecks e.checking (log_of e []) → ongoing_load nav t.loads ≡ Some load → change ≡ change_for load over (record { maker = 0; nr = t.entries + 1 }) → IsApplyDue e out load.req nav change → SeesRows (now_of e out) change → sight_in (map sight (now_of e out).documents) (record { 0 = 0 }) ≡ None → is_this t.running load.req ≡ false → mid ≡ record t { store = mid.store } → SameHistory (history_held mid.store) (applied (now_of e out).history change) → gone ≡ lost_of (history_held t.store).rows (history_held mid.store).rows (made_in t.tree) → next ≡ cancelled nav mid.loads → KeepsOthers nav mid.loads next → IsAtWork e (out ++ rows.Applied load.req change ∷ []) (record mid { tree = destroy_all gone load.req mid.tree; entries = mid.entries + 1; loads = next })
+applied_done e out t mid nav load over change gone next work free at change_is due sees no_maker apart rest history is loads others =
     subst (λ (x : Tables). IsAtWork e (out ++ rows.Applied load.req change ∷ []) (record mid { tree = destroy_all gone load.req x.tree; entries = x.entries + 1; loads = next })) (sym rest)
     (subst (λ (x : Tables). IsAtWork e (out ++ rows.Applied load.req change ∷ []) (record x { tree = destroy_all gone load.req t.tree; entries = t.entries + 1; loads = next })) (sym rest)
     (subst (λ (l : List NavId). IsAtWork e (out ++ rows.Applied load.req change ∷ []) (record t { store = mid.store; tree = destroy_all l load.req t.tree; entries = t.entries + 1; loads = next })) (sym (lost_by e out t mid change gone work history is))
     (subst (λ (c : Change). IsApplyDue e out load.req nav c → SeesRows (now_of e out) c → SameHistory (history_held mid.store) (applied (now_of e out).history c) → IsAtWork e (out ++ rows.Applied load.req c ∷ []) (record t { store = mid.store; tree = destroy_all (lost_of (now_of e out).history.rows (applied (now_of e out).history c).rows (made_in t.tree)) load.req t.tree; entries = t.entries + 1; loads = next })) (sym change_is)
-    (λ d v h. applied_work e out t nav load over (t.entries + 1) work load.replace d v no_maker apart mid.store h at next (loads ∙ ap (λ (x : Tables). cancelled nav x.loads) rest) (subst (λ (x : Tables). KeepsOthers nav x.loads next) rest others))
+    (λ d v h. applied_work e out t nav load over (t.entries + 1) work free load.replace d v no_maker apart mid.store h at next (loads ∙ ap (λ (x : Tables). cancelled nav x.loads) rest) (subst (λ (x : Tables). KeepsOthers nav x.loads next) rest others))
     due sees history)))
 
 -- so it is of what the call reads: the load in the table is that load, and the change is that of it
-pub applied_here : (e : InEvent) (out new : List RowKind) (t mid : Tables) (nav : NavId) (load own : Load) (over : EntryId) (change made : Change) (gone : List NavId) (next : List Load) → IsAtWork e out t → ongoing_load nav t.loads ≡ Some load → change ≡ change_for load over (record { maker = 0; nr = t.entries + 1 }) → IsApplyDue e out load.req nav change → SeesRows (now_of e out) change → sight_in (map sight (now_of e out).documents) (record { 0 = 0 }) ≡ None → is_this t.running load.req ≡ false → ongoing_load nav t.loads ≡ Some own → made ≡ change_for own over (record { maker = 0; nr = t.entries + 1 }) → new ≡ out ++ rows.Applied own.req made ∷ [] → mid ≡ record t { store = mid.store } → SameHistory (history_held mid.store) (applied (now_of e out).history made) → gone ≡ lost_of (history_held t.store).rows (history_held mid.store).rows (made_in t.tree) → next ≡ cancelled nav mid.loads → KeepsOthers nav mid.loads next → IsAtWork e new (record mid { tree = destroy_all gone own.req mid.tree; entries = mid.entries + 1; loads = next })
-applied_here e out new t mid nav load own over change made gone next work at change_is due sees no_maker apart own_at made_is new_is rest history is loads others =
+pub applied_here : (e : InEvent) (out new : List RowKind) (t mid : Tables) (nav : NavId) (load own : Load) (over : EntryId) (change made : Change) (gone : List NavId) (next : List Load) → IsAtWork e out t → NoStepChecks e.checking (log_of e []) → ongoing_load nav t.loads ≡ Some load → change ≡ change_for load over (record { maker = 0; nr = t.entries + 1 }) → IsApplyDue e out load.req nav change → SeesRows (now_of e out) change → sight_in (map sight (now_of e out).documents) (record { 0 = 0 }) ≡ None → is_this t.running load.req ≡ false → ongoing_load nav t.loads ≡ Some own → made ≡ change_for own over (record { maker = 0; nr = t.entries + 1 }) → new ≡ out ++ rows.Applied own.req made ∷ [] → mid ≡ record t { store = mid.store } → SameHistory (history_held mid.store) (applied (now_of e out).history made) → gone ≡ lost_of (history_held t.store).rows (history_held mid.store).rows (made_in t.tree) → next ≡ cancelled nav mid.loads → KeepsOthers nav mid.loads next → IsAtWork e new (record mid { tree = destroy_all gone own.req mid.tree; entries = mid.entries + 1; loads = next })
+applied_here e out new t mid nav load own over change made gone next work free at change_is due sees no_maker apart own_at made_is new_is rest history is loads others =
     let both : Some load ≡ Some own = sym at ∙ own_at in
     let same : load ≡ own = cc in
     let same_change : change ≡ made = change_is ∙ ap (λ (l : Load). change_for l over (record { maker = 0; nr = t.entries + 1 })) same ∙ sym made_is in
     next_work e new (out ++ rows.Applied own.req made ∷ []) (record mid { tree = destroy_all gone own.req mid.tree; entries = mid.entries + 1; loads = next }) new_is
-    (applied_done e out t mid nav own over made gone next work own_at made_is (subst (λ (l : Load). IsApplyDue e out l.req nav made) same (subst (λ (c : Change). IsApplyDue e out load.req nav c) same_change due)) (subst (λ (c : Change). SeesRows (now_of e out) c) same_change sees) no_maker (subst (λ (l : Load). is_this t.running l.req ≡ false) same apart) rest history is loads others)
+    (applied_done e out t mid nav own over made gone next work free own_at made_is (subst (λ (l : Load). IsApplyDue e out l.req nav made) same (subst (λ (c : Change). IsApplyDue e out load.req nav c) same_change due)) (subst (λ (c : Change). SeesRows (now_of e out) c) same_change sees) no_maker (subst (λ (l : Load). is_this t.running l.req ≡ false) same apart) rest history is loads others)

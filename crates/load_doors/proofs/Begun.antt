@@ -18,7 +18,7 @@ use Rattle.log_model.proofs.Refl.{nat_eq_refl}
 use Rattle.log_model.specs.After.{after}
 use Rattle.log_model.specs.AfterRequests.{load_replaces, on_request, request_begun}
 use Rattle.log_model.specs.Once.{loads, has_no_earlier_load}
-use Rattle.log_model.specs.Places.{is_load, is_ongoing_load}
+use Rattle.log_model.specs.Places.{is_load, is_ongoing_load, is_traversal}
 use Rattle.log_model.specs.Seen.{Asked, Seen, request_in, request_of}
 use Rattle.log_model.specs.declared.request.Request.{Request}
 use Rattle.log_model.specs.declared.row_kind.RowKind.{RowKind}
@@ -36,7 +36,7 @@ use Rattle.unasked.proofs.Readings.{checked_off, request_read}
 use Rattle.tab_doors.proofs.Ahead.{IsStep, step_owing}
 use Rattle.tab_doors.proofs.EndLaws.{left_holds}
 use Rattle.tab_doors.proofs.Requests.{moved_read, moved_same, runs_same}
-use Rattle.tab_doors.proofs.Works.{off_runs, started_held, work_more, BeginsSole}
+use Rattle.tab_doors.proofs.Works.{started_held, work_more, BeginsSole}
 use Rattle.tab_doors.specs.Look.{look_of, moved_by}
 use Rattle.tab_doors.specs.Ties.{Holds}
 use Rattle.tab_doors.specs.Working.{HasGoal, IsAtWork}
@@ -150,6 +150,14 @@ module _ (e : InEvent) (out : List RowKind) (t : Tables) (req : ReqId) (nav : Na
   same_reads : {B : Type 0} (read : Asked → B) → read (request_begun s (record bare { is_started = true; goal = None })) ≡ read bare → SameReads read s.requests then_begun.requests
   same_reads read same = begun_reads read s req None bare there same
 
+  -- it is no traversal
+  no_traversal : {P : Type 0} (q : Asked) → request_of (log_of e out) req ≡ Some q → is_traversal q.what ≡ true → P
+  no_traversal q at traverses =
+      let both : Some its.q ≡ Some q = sym its.due.at ∙ at in
+      let one : its.q ≡ q = cc in
+      let never : false ≡ true = sym (ap is_traversal its.due.what) ∙ ap (λ (x : Asked). is_traversal x.what) one ∙ traverses in
+      absurd cc
+
   is_a_load : is_load bare.what ≡ true
   is_a_load = ap is_load its.due.what
 
@@ -171,7 +179,7 @@ module _ (e : InEvent) (out : List RowKind) (t : Tables) (req : ReqId) (nav : Na
 
   pub begin_load_work : IsAtWork e (out ++ rows.Started req None ∷ []) with_begun
   begin_load_work =
-      work_more e out (rows.Started req None) None t with_begun work (started_goes e out req None (work.checks.numbered req) off) soles (λ by q r at there_ other traverses on runs. rw off (off_runs e.checking (log_of e out) work.unheld by r there_ on runs)) (inl off)
+      work_more e out (rows.Started req None) None t with_begun work (started_goes e out req None (work.checks.numbered req) off) soles (λ by q r at there_ other traverses on runs. no_traversal q at traverses) (inl off)
       (record {
         navs = record { navs = as_before.navs.navs; order = as_before.navs.order };
         documents = as_before.documents;
@@ -193,6 +201,7 @@ module _ (e : InEvent) (out : List RowKind) (t : Tables) (req : ReqId) (nav : Na
       off
       begin_step
       refl
+      (inl refl)
     where
       soles : BeginsSole e out (rows.Started req None)
       soles sole = load_sole e out req nav its.mode address its.q its.due its.sole its.first sole

@@ -21,7 +21,7 @@ use Rattle.seen_facts.proofs.Request.Readers.{on_read}
 use Rattle.seen_laws.proofs.InEvents.{led_here, now_is}
 use Rattle.seen_laws.proofs.Owings.{drop_may}
 use Rattle.seen_laws.specs.InEvent.{InEvent, here_of, log_of, now_of, row_of}
-use Rattle.std.proofs.Common.{List, None, Some, [], ap, false, refl, subst, sym, ◌++◌, ◌∙◌, ◌∷◌, ◌≡◌}
+use Rattle.std.proofs.Common.{Bool, List, None, Some, [], ap, false, inl, refl, subst, sym, ◌++◌, ◌∙◌, ◌∷◌, ◌≡◌}
 use Rattle.tab_doors.proofs.Ahead.{IsStep, step_owing}
 use Rattle.tab_doors.proofs.EndLaws.{left_holds}
 use Rattle.tab_doors.proofs.Requests.{ended_moved, moved_same, runs_ended_apart}
@@ -31,7 +31,7 @@ use Rattle.tab_doors.specs.Dues.{IsDestroyDue}
 use Rattle.tab_doors.specs.Keeping.{IsNoLoad}
 use Rattle.tab_doors.specs.Look.{look_of, moved_by}
 use Rattle.tab_doors.specs.Ties.{Holds}
-use Rattle.tab_doors.specs.Working.{IsAtWork, look_now}
+use Rattle.tab_doors.specs.Working.{IsAtWorkIn, look_now}
 use Rattle.tab_doors.specs.declared.tables.Tables.{Tables}
 use Rattle.tab_ids.specs.declared.NavId.{NavId}
 use Rattle.tab_ids.specs.declared.ReqId.{ReqId}
@@ -39,7 +39,7 @@ use Rattle.log_model.specs.declared.outcome.Cause.TheVariants as drops
 use Rattle.log_model.specs.declared.outcome.Ending.TheVariants as endings
 use Rattle.log_model.specs.declared.row_kind.RowKind.TheVariants as rows
 
-module _ (e : InEvent) (out : List RowKind) (t : Tables) (req : ReqId) (work : IsAtWork e out t) (apart : is_this t.running req ≡ false) where
+module _ {sweeps : Bool} (e : InEvent) (out : List RowKind) (t : Tables) (req : ReqId) (work : IsAtWorkIn sweeps None e out t) (apart : is_this t.running req ≡ false) where
   abbrev then_dropped : Cause → Seen
   then_dropped cause = after (now_of e out) (row_of e (rows.Dropped req cause))
 
@@ -59,7 +59,7 @@ module _ (e : InEvent) (out : List RowKind) (t : Tables) (req : ReqId) (work : I
           is_open =
               sym (part_of e.checking (λ (x : Asked). x.ending) (λ x. refl) (λ x. refl) from.0 here.asked from.2) ∙ here.open_
 
-  dropped_work : (cause : Cause) (next : List Load) → e.checking req ≡ false → IsStep None None e out (rows.Dropped req cause) → TiesLoads (then_dropped cause) next → IsAtWork e (out ++ rows.Dropped req cause ∷ []) (with_loads next)
+  dropped_work : (cause : Cause) (next : List Load) → e.checking req ≡ false → IsStep None None e out (rows.Dropped req cause) → TiesLoads (then_dropped cause) next → IsAtWorkIn sweeps None e (out ++ rows.Dropped req cause ∷ []) (with_loads next)
   dropped_work cause next off step loads =
       work_more e out (rows.Dropped req cause) None t (with_loads next) work (dropped_goes e out req cause) tt tt tt
       (on_tables (left_holds (look_now e out t.running) (look_of (then_dropped cause) t.running) t refl refl refl moved refl refl refl work.holds))
@@ -72,6 +72,7 @@ module _ (e : InEvent) (out : List RowKind) (t : Tables) (req : ReqId) (work : I
       off
       step
       refl
+      (inl refl)
     where
       moved : moved_by (then_dropped cause).requests t.running ≡ moved_by (now_of e out).requests t.running
       moved = moved_same (now_of e out).requests (ended (now_of e out).requests req (endings.Dropped cause)) t.running (ended_moved (now_of e out) e.event e.actor req (endings.Dropped cause))
@@ -92,7 +93,7 @@ module _ (e : InEvent) (out : List RowKind) (t : Tables) (req : ReqId) (work : I
           }
 
   -- it is no ongoing load
-  pub drop_new_work : (by : ReqId) → IsOpenHere e out req → IsNoLoad (now_of e out) req → e.checking req ≡ false → IsAtWork e (out ++ rows.Dropped req (drops.By by) ∷ []) t
+  pub drop_new_work : (by : ReqId) → IsOpenHere e out req → IsNoLoad (now_of e out) req → e.checking req ≡ false → IsAtWorkIn sweeps None e (out ++ rows.Dropped req (drops.By by) ∷ []) t
   drop_new_work by here none off =
       dropped_work (drops.By by) t.loads off (drop_owing by here) (other_ends (now_of e out) (then_dropped (drops.By by)) req (dropped_ended (now_of e out) e.event e.actor req (drops.By by)) t.loads work.loads none)
 
@@ -112,8 +113,8 @@ module _ (e : InEvent) (out : List RowKind) (t : Tables) (req : ReqId) (work : I
     ties_then cause =
         load_ends (now_of e out) (then_dropped cause) req (dropped_ended (now_of e out) e.event e.actor req cause) t.loads work.loads nav its.load its.at its.req_is next gone others
 
-    pub drop_load_work : (by : ReqId) → IsOpenHere e out req → IsAtWork e (out ++ rows.Dropped req (drops.By by) ∷ []) (with_loads next)
+    pub drop_load_work : (by : ReqId) → IsOpenHere e out req → IsAtWorkIn sweeps None e (out ++ rows.Dropped req (drops.By by) ∷ []) (with_loads next)
     drop_load_work by here = dropped_work (drops.By by) next off (drop_owing by here) (ties_then (drops.By by))
 
-    pub destroy_load_work : (by : ReqId) → IsDestroyDue e out req by → IsAtWork e (out ++ rows.Dropped req (drops.Destroyed by) ∷ []) (with_loads next)
+    pub destroy_load_work : (by : ReqId) → IsDestroyDue e out req by → IsAtWorkIn sweeps None e (out ++ rows.Dropped req (drops.Destroyed by) ∷ []) (with_loads next)
     destroy_load_work by due = dropped_work (drops.Destroyed by) next off (destroy_step e out t req work apart by due) (ties_then (drops.Destroyed by))

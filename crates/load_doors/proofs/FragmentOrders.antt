@@ -11,7 +11,7 @@ use Rattle.log_model.specs.declared.request.Mode.{Mode}
 use Rattle.log_model.specs.declared.row_kind.RowKind.{RowKind}
 use Rattle.seen_facts.proofs.Request.Readers.{on_read}
 use Rattle.seen_laws.specs.InEvent.{InEvent, now_of, row_of}
-use Rattle.std.proofs.Common.{List, None, Some, [], arith, cond, false, length, map, refl, subst, sym, true, ℕ, ◌++◌, ◌+◌, ◌==◌, ◌∷◌, ◌≡◌}
+use Rattle.std.proofs.Common.{List, None, Some, [], arith, cond, false, inl, length, map, refl, subst, sym, true, ℕ, ◌++◌, ◌+◌, ◌==◌, ◌∷◌, ◌≡◌}
 use Rattle.std.proofs.lemmas.List.{length-map}
 use Rattle.tab_doors.proofs.Ahead.{step_sent}
 use Rattle.tab_doors.proofs.EndLaws.{left_holds}
@@ -77,4 +77,5 @@ module _ (e : InEvent) (out : List RowKind) (t : Tables) (doc : DocId) (req : Re
       (kept_on (now_of e out) doc (addressed fragment) (λ d. refl) (λ d. refl) None t.kept t.kept work.kept refl)
       tt
       (step_sent e out None order (fragment_quiet e order req mode address refl) refl may)
-      refl)
+      refl
+      (inl refl))

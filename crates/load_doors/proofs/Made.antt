@@ -21,7 +21,7 @@ use Rattle.log_model.specs.declared.row_kind.RowKind.{RowKind}
 use Rattle.nav_tree.specs.Tree.{is_state}
 use Rattle.seen_laws.proofs.InEvents.{led_here, now_is}
 use Rattle.seen_laws.specs.InEvent.{InEvent, here_of, log_of, now_of, row_of}
-use Rattle.std.proofs.Common.{List, None, Option, Some, [], ap, false, map, refl, subst, sym, ℕ, ◌++◌, ◌∙◌, ◌∷◌, ◌≡◌}
+use Rattle.std.proofs.Common.{List, None, Option, Some, [], ap, false, inl, map, refl, subst, sym, ℕ, ◌++◌, ◌∙◌, ◌∷◌, ◌≡◌}
 use Rattle.std.specs.Map.{lookup}
 use Rattle.std.specs.Prelude.{option_map}
 use Rattle.tab_doors.proofs.Ahead.{IsStep, step_plain}
@@ -81,6 +81,7 @@ module _ (e : InEvent) (out : List RowKind) (t u : Tables) (proc : ProcId) (doc 
       for_other
       (load_make_step due known)
       one.checks
+      (inl refl)
     where
       own : ongoing_load nav u.loads ≡ Some (in_phase (phases.Populating doc) its.load)
       own =

@@ -5,7 +5,8 @@ use Rattle.unasked.proofs.Nows.{refused_goes, refused_now}
 use Rattle.checking_facts.proofs.Rows.{row_checks, row_steps}
 use Rattle.checking_facts.proofs.Steps.{more_duly}
 use Rattle.checking_facts.specs.Prompts.{AreAskedDuly, IsUndropped, told_by}
-use Rattle.unasked_dues.specs.Checking.{AllOthersPass, NoStepChecks}
+use Rattle.tab_doors.proofs.Calm.{row_calm}
+use Rattle.unasked_dues.specs.Checking.{AllOthersPass, NoStepChecks, NonePasses}
 use Rattle.row_facts.proofs.FrameRows.LawfulLaws.{ends_other}
 use Rattle.row_facts.specs.FrameRows.Lawful.{KeepsHeld, held_at_first}
 use Rattle.log_model.specs.Equal.{has_req, holds}
@@ -134,9 +135,12 @@ module _ (e : InEvent) (t : Tables) (req : ReqId) (reason : Denial) (denied : Is
         sole = soles_more e [] (rows.Refused req reason) tt (sole_own e (log_of e []) logged.uncut);
         debts = debts_own e logged.uncut;
         checks = checks_;
-        unheld =
+        calm =
+            subst (λ (x : Seen). NonePasses e.checking x) (sym (log_more e [] (rows.Refused req reason)))
+            (row_calm e.checking (log_of e []) (row_of e (rows.Refused req reason)) logged.calm (denied.off, undropped) refl);
+        unheld = λ free.
             subst (λ (x : Seen). NoStepChecks e.checking x) (sym (log_more e [] (rows.Refused req reason)))
-            (row_steps e.checking (log_of e []) (row_of e (rows.Refused req reason)) tt tt logged.unheld);
+            (row_steps e.checking (log_of e []) (row_of e (rows.Refused req reason)) tt tt free);
         holds = subst (λ (x : Seen). Holds (look_of x t.running) t) (sym now_is) (left_holds (look_of s t.running) (look_of n t.running) t refl refl refl moved refl refl refl tied.holds);
         runs = subst (λ (x : Seen). IsRunning x.requests t.running) (sym now_is) (runs_ended_apart s.requests t.running req (endings.Refused reason) apart tied.runs);
         goal = subst (λ (x : Seen). HasGoal x.requests t.running t.goal) (sym now_is) (goal_same s.requests over t.running t.goal (on_read goal_read s.requests req (λ q. record q { ending = Some (endings.Refused reason) }) (λ q. refl)) tied.goal);

@@ -6,10 +6,11 @@ ghost use Rattle.load_doors.specs.Applying.{InApply, IsApplyDue, new_entry};
 ghost use Rattle.load_table.specs.Loads.{ongoing_load};
 ghost use Rattle.log_model.specs.declared.row_kind.RowKind.TheVariants as rows;
 ghost use Rattle.navigate_core.specs.Navigations.{change_for};
-ghost use Rattle.seen_laws.specs.InEvent.{now_of};
+ghost use Rattle.seen_laws.specs.InEvent.{log_of, now_of};
 ghost use Rattle.tab_doors.specs.Dues.{MayChange, SeesRows};
 ghost use Rattle.tab_doors.specs.Look.{sight, sight_in};
 ghost use Rattle.tab_doors.specs.Working.{IsAtWork, KeepsRun};
+ghost use Rattle.unasked_dues.specs.Checking.{NoStepChecks};
 
 use address::OutOfMemory;
 use load_table::Load;
@@ -48,6 +49,7 @@ pub fn apply_load(
     requires no_maker { sight_in (map sight (now_of a.event out.old).documents) (record { 0 = 0 }) ≡ None }
     requires apart { is_this tables.old.running a.load.req ≡ false }
     requires room { tables.old.entries + 1 < 2 ^ 32 }
+    requires free { NoStepChecks a.event.checking (log_of a.event []) }
     ensures work { OnOk result (IsAtWork a.event out.new tables.new) }
     ensures out { OnOk result (out.new ≡ out.old ++ rows.Applied a.load.req a.change ∷ []) }
     ensures kept { OnOk result (KeepsRun tables.old tables.new) }

@@ -1,5 +1,5 @@
 //! A load is dropped.
-ghost use Rattle.std.specs.Prelude.{◌≡◌, ◌++◌, ◌∷◌, [], false, OnOk};
+ghost use Rattle.std.specs.Prelude.{◌≡◌, ◌++◌, ◌∷◌, [], None, false, OnOk};
 ghost use Rattle.seen_facts.specs.Each.Runs.{is_this};
 ghost use Rattle.load_doors.specs.Loading.{IsOpenHere};
 ghost use Rattle.seen_facts.specs.LoadTies.Tying.{HasLoad};
@@ -8,7 +8,7 @@ ghost use Rattle.log_model.specs.declared.row_kind.RowKind.TheVariants as rows;
 ghost use Rattle.seen_laws.specs.InEvent.{InEvent, now_of};
 ghost use Rattle.tab_doors.specs.Dues.{IsDestroyDue};
 ghost use Rattle.tab_doors.specs.Keeping.{IsNoLoad};
-ghost use Rattle.tab_doors.specs.Working.{IsAtWork, KeepsStore};
+ghost use Rattle.tab_doors.specs.Working.{InSweep, IsAtWork, IsAtWorkIn, KeepsStore};
 
 use address::OutOfMemory;
 use log_model::{Cause, Out, RowKind};
@@ -72,12 +72,12 @@ pub fn destroy_load(
     req: ReqId,
     by: ReqId,
 ) -> Result<(), OutOfMemory>
-    ghost e: { InEvent }
-    requires work { IsAtWork e out.old tables.old }
-    requires due { IsDestroyDue e out.old req by }
+    ghost s: { InSweep }
+    requires work { IsAtWorkIn s.sweeps None s.event out.old tables.old }
+    requires due { IsDestroyDue s.event out.old req by }
     requires apart { is_this tables.old.running req ≡ false }
     requires its { HasLoad tables.old.loads nav req }
-    ensures work { OnOk result (IsAtWork e out.new tables.new) }
+    ensures work { OnOk result (IsAtWorkIn s.sweeps None s.event out.new tables.new) }
     ensures out { OnOk result (out.new ≡ out.old ++ rows.Dropped req (drops.Destroyed by) ∷ []) }
     ensures kept { OnOk result (KeepsStore tables.old tables.new) }
 {

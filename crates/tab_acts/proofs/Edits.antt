@@ -1,6 +1,7 @@
--- A document edits itself on the first poke of its process: that is applied in the same event, and the coordinator that stood for the log stands for it still.
+-- A document edits itself on the first poke of its process: that is applied in the same event, and the coordinator has acted, which does nothing itself, whoever is in a check.
+use Rattle.asking_facts.proofs.Passed.{known_on}
 use Rattle.tab_stands.proofs.Logged.{once_of}
-use Rattle.tab_doors.proofs.Uncut.{uncut_pass}
+use Rattle.checking_facts.specs.Checks.{AreInCheck}
 use Rattle.log_model.proofs.Refl.{nat_eq_refl}
 use Rattle.log_model.specs.After.{after, is_new_step}
 use Rattle.log_model.specs.AfterRequests.{entries_taken}
@@ -16,10 +17,8 @@ use Rattle.log_model.specs.declared.made.Made.{Made}
 use Rattle.log_model.specs.declared.made.What.TheVariants as whats
 use Rattle.log_model.specs.declared.outcome.Ending.TheVariants as endings
 use Rattle.log_model.specs.declared.request.Poke.{Poke}
-use Rattle.log_model.specs.declared.row_kind.Actor.{Actor}
 use Rattle.log_model.specs.declared.row_kind.Actor.TheVariants as actors
 use Rattle.log_model.specs.declared.row_kind.LogRow.{LogRow}
-use Rattle.log_model.specs.declared.row_kind.RowKind.{RowKind}
 use Rattle.log_model.specs.declared.row_kind.RowKind.TheVariants as rows
 use Rattle.move_queue.specs.Queue.{Queue}
 use Rattle.row_facts.proofs.Left.Rows.{were_shown}
@@ -27,17 +26,20 @@ use Rattle.seen_facts.proofs.Coord.Held.{held_apart, held_on, on_else}
 use Rattle.seen_facts.proofs.Coord.Unread.{next}
 use Rattle.seen_facts.proofs.Request.LookUps.{on_itself}
 use Rattle.seen_facts.proofs.Request.Readers.{SameReads, on_read}
-use Rattle.seen_laws.proofs.InEvents.{log_more}
 use Rattle.seen_laws.proofs.Keyed.{find_has, find_map}
 use Rattle.seen_laws.specs.Acting.{IsToAct}
 use Rattle.seen_laws.specs.Blocks.{EachPass, Passes}
-use Rattle.seen_laws.specs.InEvent.{InEvent, log_of, row_of, start_of}
-use Rattle.std.proofs.Common.{Bool, List, None, Option, Some, [], ap, arith, cond, eqb-true, false, map, refl, subst, sym, true, ℕ, ◌+◌, ◌==◌, ◌∙◌, ◌∷◌, ◌≡◌}
+use Rattle.seen_laws.specs.InEvent.{InEvent, log_of, start_of}
+use Rattle.seen_laws.specs.Unasked.{unhandled, without_asks}
+use Rattle.std.proofs.Common.{Bool, List, None, Option, Some, [], ap, arith, cond, eqb-true, false, map, refl, subst, sym, true, ℕ, ◌&&◌, ◌+◌, ◌==◌, ◌∙◌, ◌∷◌, ◌≡◌}
 use Rattle.std.proofs.lemmas.Bool.Decides.{nat_tests}
 use Rattle.std.specs.Prelude.{find, is_some, option_map, slice_get}
+use Rattle.tab_acts.proofs.Acted as acted
 use Rattle.tab_acts.proofs.Acts as acts
-use Rattle.tab_acts.proofs.Events.{log_is, own_row}
+use Rattle.tab_acts.proofs.Checks.{IsIdle, edited_beside, made_beside}
+use Rattle.tab_acts.proofs.Events.{log_is, seen_room, two_act}
 use Rattle.tab_acts.proofs.Left.{KeepChanges, StaysTold, left_stands}
+use Rattle.tab_acts.proofs.Readings.{found_off, found_read, input_read}
 use Rattle.tab_doors.specs.Look.{sight}
 use Rattle.tab_doors.specs.declared.tables.Tables.{Tables}
 use Rattle.tab_facts.proofs.Last.Applied.{edited_lasting}
@@ -46,7 +48,7 @@ use Rattle.tab_facts.proofs.Order.Rows.{orders_after}
 use Rattle.tab_facts.proofs.TabEvents.Editing.{edited_between, edited_left}
 use Rattle.tab_facts.proofs.TabEvents.Left.{but_of}
 use Rattle.tab_facts.proofs.TabGoing.Counts.{as_many, count_more, count_same}
-use Rattle.tab_facts.proofs.TabWhole.Acting.{IsActing}
+use Rattle.tab_facts.proofs.TabWhole.Acting.{Asks, IsActing, its_asked}
 use Rattle.tab_facts.proofs.TabWhole.Editing as editing
 use Rattle.tab_facts.specs.Last.Lasting.{AreLasting}
 use Rattle.tab_facts.specs.TabGoing.Going.{count_of, has_ended, has_spent}
@@ -59,7 +61,11 @@ use Rattle.tab_stands.proofs.Coming.{bare}
 use Rattle.tab_stands.proofs.EpochRows.{coord_under, made_under}
 use Rattle.tab_stands.proofs.PassedOn.{FitsWell, change_duly, row_checks, row_duly, unstood_by}
 use Rattle.tab_stands.specs.PassedOn.{LoadsMadeOwn}
-use Rattle.tab_stands.specs.Standing.{HasIdled, HasRoomFor, InCheck, LastsInLog, StandsFor}
+use Rattle.tab_stands.specs.Checked.{ChecksStand}
+use Rattle.tab_stands.specs.Offs.{AreShownOnce}
+use Rattle.tab_stands.specs.Standing.{HasActed, HasRoomFor, InCheck, LastsInLog, StandsFor, seen_start}
+use Rattle.unasked.proofs.Ends.{applied_seen}
+use Rattle.unasked.proofs.Works.{made_seen}
 
 some_same : {A : Type 0} {a b : A} → (let o : Option A = Some a in o) ≡ Some b → a ≡ b
 some_same e = cc
@@ -121,18 +127,15 @@ module _ (header : Header) (s : Seen) (proc : ProcId) (poke : Poke) (q : Asked) 
       nowhere : goes poke.action ≡ false
       nowhere = goes_nowhere view poke.action makes
 
--- ---- the coordinator
+-- ---- the tables, of whatever the log has come to
 
-module _ (e : InEvent) (t : Tables) (queue : Queue) (blame : List (StateId × ReqId)) {check : InCheck} (stands : StandsFor check e.start t queue blame) (lasts : LastsInLog e.checking e.start) (room : HasRoomFor e.start) (proc : ProcId) (poke : Poke) (first : slice_get (desk_of e.start proc).input 0 ≡ Some poke) (d : Document) (view : View) (found : document_of e.start poke.doc ≡ Some d) (has : d.view ≡ Some view) (runs : view.running ≡ true) (makes : made_by view poke.action ≡ Some whats.Edit) (off : e.checking poke.req ≡ false) where
-  abbrev s : Seen
-  s = e.start
-
+module _ (s : Seen) (t : Tables) (queue : Queue) (blame : List (StateId × ReqId)) {check : InCheck} (stands : StandsFor check s t queue blame) (room : HasRoomFor s) (once : AreShownOnce s.places) (proc : ProcId) (poke : Poke) (first : slice_get (desk_of s proc).input 0 ≡ Some poke) (d : Document) (view : View) (found : document_of s poke.doc ≡ Some d) (has : d.view ≡ Some view) (runs : view.running ≡ true) (makes : made_by view poke.action ≡ Some whats.Edit) where
   abbrev its_made : Made
   its_made = made_for view poke.req whats.Edit
 
   acting : IsActing t.running s proc stands.between.tab stands.between.flows poke first d view whats.Edit
   acting =
-      acts.acting e t queue blame stands lasts room proc poke first d view found has runs whats.Edit makes
+      acted.acting s t queue blame stands room once proc poke first d view found has runs whats.Edit makes
 
   abbrev edits : Seen
   edits =
@@ -151,14 +154,14 @@ module _ (e : InEvent) (t : Tables) (queue : Queue) (blame : List (StateId × Re
 
   -- ---- the request of the poke
 
-  abbrev asked : acts.Asks e t queue blame stands lasts room proc poke first
-  asked = acts.its_asked e t queue blame stands lasts room proc poke first
+  abbrev asked : Asks t.running s proc stands.between.tab stands.between.flows poke first
+  asked = its_asked t.running s proc stands.between.tab stands.between.flows poke first
 
-  to_act : IsToAct s proc poke asked.q asked.nav d view
-  to_act = acts.to_act e t queue blame stands lasts room proc poke first d view found has runs
+  its_there : document_of s view.doc ≡ Some d
+  its_there = acted.there s t queue blame stands room once proc poke first d view found has runs
 
   unheld : has_req s.parked poke.req ≡ false
-  unheld = acts.unheld e t queue blame stands lasts room proc poke first
+  unheld = acted.unheld s t queue blame stands room once proc poke first
 
   abbrev make : Asked → Asked
   make x = record x { made = Some its_made }
@@ -225,7 +228,7 @@ module _ (e : InEvent) (t : Tables) (queue : Queue) (blame : List (StateId × Re
   told : StaysTold s n
   told =
       record {
-        sights = ap (λ (l : List Document). map sight l) documents_same ∙ acts.sights e t queue blame stands lasts room proc poke first d view found has runs whats.Edit makes;
+        sights = ap (λ (l : List Document). map sight l) documents_same ∙ acted.sights s t queue blame stands room once proc poke first d view found has runs whats.Edit makes;
         ways = reads bare (λ x. refl) (λ x. refl) (λ x. refl) (λ x. refl);
         changes = changes;
         held = held_on _ s.parked poke.req took (λ x. refl) ∙ held_on _ s.parked poke.req with_change (λ x. refl) ∙ held_on edits.requests s.parked poke.req apply (λ x. refl) ∙ held_apart s.requests s.parked poke.req make unheld;
@@ -242,22 +245,49 @@ module _ (e : InEvent) (t : Tables) (queue : Queue) (blame : List (StateId × Re
 
   homes : (doc : DocId) (x : Document) → document_of s doc ≡ Some x → (new : Document) × (document_of n doc ≡ Some new) × (new.nav ≡ x.nav)
   homes doc x at =
-      let its = acts.homes e t queue blame stands lasts room proc poke first d view found has runs whats.Edit makes doc x at in
+      let its = acted.homes s t queue blame stands room once proc poke first d view found has runs whats.Edit makes doc x at in
       (its.0, ap (λ (l : List Document). find (λ (y : Document). y.nr.0 == doc.0) l) documents_same ∙ its.1, its.2)
 
   lasting : AreLasting n
   lasting =
-      edited_lasting edits s.events (actors.Proc proc) (made_lasting s s.events (actors.Proc proc) stands.lasts.lasting proc its_made d view to_act.there has runs refl (acts.goes e t queue blame stands lasts room proc poke first d view found has runs whats.Edit makes)) poke.req
+      edited_lasting edits s.events (actors.Proc proc) (made_lasting s s.events (actors.Proc proc) stands.lasts.lasting proc its_made d view its_there has runs refl (acted.goes_on s t queue blame stands room once proc poke first d view found has runs whats.Edit makes)) poke.req
 
   theirs : LoadsMadeOwn n
   theirs =
-      acts.theirs_else s n poke.req (acts.no_load e t queue blame stands lasts room proc poke first) others own_was homes stands.lasts.made
+      acted.theirs_else s n poke.req (acted.no_load s t queue blame stands room once proc poke first) others own_was homes stands.lasts.made
     where
       own_was : (q : Asked) → request_in n.requests poke.req ≡ Some q → (old : Asked) × (request_in s.requests poke.req ≡ Some old) × (old.what ≡ q.what)
       own_was q at = (asked.q, asked.there, ap (λ (x : Asked). x.what) (some_same (sym there_then ∙ at)))
 
+  pub edit_stands : StandsFor check (next (next s s.events (actors.Proc proc) (rows.Made proc (made_for view poke.req whats.Edit))) s.events (actors.Proc proc) (rows.Applied poke.req kinds.Edit)) t queue blame
+  edit_stands =
+      left_stands s t queue blame stands room n (but_of t.running s n (edited_left t.kept.keep t.running s proc stands.between poke first d view acting)) told
+      (edited_between t.kept.keep t.running s proc stands.between poke first d view acting) lasting
+      (λ F are. orders_after F edits s.events (actors.Proc proc) (rows.Applied poke.req kinds.Edit) tt (λ x is. cc) (orders_after F s s.events (actors.Proc proc) (rows.Made proc its_made) tt (λ x is. cc) are)) theirs
+      (were_shown edits s.events (actors.Proc proc) (were_shown s s.events (actors.Proc proc) stands.lasts.were (rows.Made proc its_made) tt) (rows.Applied poke.req kinds.Edit) tt)
+      (subst (λ (l : List Place). AreShownOnce l) (sym places_same) once)
+
+-- ---- the event, of the log itself
+
+module _ (e : InEvent) (t : Tables) (queue : Queue) (blame : List (StateId × ReqId)) {check : InCheck} (stands : StandsFor check (seen_start e) t queue blame) (lasts : LastsInLog e.checking e.start) (asks : ChecksStand e.checking e.start t.checks) (room : HasRoomFor e.start) (proc : ProcId) (poke : Poke) (first : slice_get (desk_of e.start proc).input 0 ≡ Some poke) (d : Document) (view : View) (found : document_of e.start poke.doc ≡ Some d) (has : d.view ≡ Some view) (runs : view.running ≡ true) (makes : made_by view poke.action ≡ Some whats.Edit) where
+  abbrev edit_ : Made
+  edit_ = made_for view poke.req whats.Edit
+
+  abbrev edits_log : Seen
+  edits_log = next e.start e.event (actors.Proc proc) (rows.Made proc (made_for view poke.req whats.Edit))
+
+  abbrev its_poke : acts.Asks e t queue blame stands lasts asks room proc poke first
+  its_poke = acts.its_asked e t queue blame stands lasts asks room proc poke first
+
+  acts_log : IsToAct e.start proc poke its_poke.q its_poke.nav d view
+  acts_log = acts.to_act e t queue blame stands lasts asks room proc poke first d view found has runs
+
+  -- what makes an edit is in no check
+  off : e.checking poke.req ≡ false
+  off = acts.nowhere_off e t queue blame stands lasts asks room proc poke first (goes_nowhere view poke.action makes)
+
   -- an edit changes no history
-  edit_fits : FitsWell edits kinds.Edit
+  edit_fits : FitsWell edits_log kinds.Edit
   edit_fits =
       record {
         sound = stands.between.tab.sound;
@@ -267,31 +297,24 @@ module _ (e : InEvent) (t : Tables) (queue : Queue) (blame : List (StateId × Re
         then_sound = stands.between.tab.sound;
       }
 
-  edit_lasts : LastsInLog e.checking n
+  edit_lasts : LastsInLog e.checking (next edits_log e.event (actors.Proc proc) (rows.Applied poke.req kinds.Edit))
   edit_lasts =
       record {
         checks =
-            row_checks e.checking edits (record { event = s.events; actor = actors.Proc proc; row = rows.Applied poke.req kinds.Edit }) off tt
-            (row_checks e.checking s (record { event = s.events; actor = actors.Proc proc; row = rows.Made proc its_made }) tt tt lasts.checks);
-        shows = coord_under edits s.events (actors.Proc proc) (rows.Applied poke.req kinds.Edit) tt (record { start = s; now = edits; done = []; later = [] }) refl refl (made_under s s.events (actors.Proc proc) proc its_made lasts.shows);
-        duly = change_duly edits s.events (actors.Proc proc) (row_duly s s.events (actors.Proc proc) lasts.duly (rows.Made proc its_made) tt) poke.req kinds.Edit edit_fits tt;
+            row_checks e.checking edits_log (record { event = e.event; actor = actors.Proc proc; row = rows.Applied poke.req kinds.Edit }) off tt
+            (row_checks e.checking e.start (record { event = e.event; actor = actors.Proc proc; row = rows.Made proc edit_ }) tt tt lasts.checks);
+        shows = coord_under edits_log e.event (actors.Proc proc) (rows.Applied poke.req kinds.Edit) tt (record { start = e.start; now = edits_log; done = []; later = [] }) refl refl (made_under e.start e.event (actors.Proc proc) proc edit_ lasts.shows);
+        duly = change_duly edits_log e.event (actors.Proc proc) (row_duly e.start e.event (actors.Proc proc) lasts.duly (rows.Made proc edit_) tt) poke.req kinds.Edit edit_fits tt;
+        known =
+            known_on edits_log (record { event = e.event; actor = actors.Proc proc; row = rows.Applied poke.req kinds.Edit }) tt tt tt tt
+            (known_on e.start (record { event = e.event; actor = actors.Proc proc; row = rows.Made proc edit_ }) tt tt tt tt lasts.known);
       }
 
-  edit_stands : StandsFor check n t queue blame
-  edit_stands =
-      left_stands s t queue blame stands room n (but_of t.running s n (edited_left t.kept.keep t.running s proc stands.between poke first d view acting)) told
-      (edited_between t.kept.keep t.running s proc stands.between poke first d view acting) lasting
-      (λ F are. orders_after F edits s.events (actors.Proc proc) (rows.Applied poke.req kinds.Edit) tt (λ x is. cc) (orders_after F s s.events (actors.Proc proc) (rows.Made proc its_made) tt (λ x is. cc) are)) theirs
-      (were_shown edits s.events (actors.Proc proc) (were_shown s s.events (actors.Proc proc) stands.lasts.were (rows.Made proc its_made) tt) (rows.Applied poke.req kinds.Edit) tt)
-      (once_of edit_lasts.shows)
-
-  -- ---- the event
-
   -- its document, once it has made it
-  edited_document : document_of edits view.doc ≡ Some (record d { view = option_map (λ (v : View). after_made v whats.Edit) d.view })
+  edited_document : document_of edits_log view.doc ≡ Some (record d { view = option_map (λ (v : View). after_made v whats.Edit) d.view })
   edited_document =
-      find_map (λ (x : Document). x.nr.0) does view.doc.0 s.documents does_nr
-      ∙ ap (λ (o : Option Document). option_map does o) to_act.there
+      find_map (λ (x : Document). x.nr.0) does view.doc.0 e.start.documents does_nr
+      ∙ ap (λ (o : Option Document). option_map does o) acts_log.there
       ∙ ap (λ (b : Bool). let o : Option Document = Some (cond b (record d { view = option_map (λ (v : View). after_made v whats.Edit) d.view }) d) in o) number
     where
       does : Document → Document
@@ -301,39 +324,56 @@ module _ (e : InEvent) (t : Tables) (queue : Queue) (blame : List (StateId × Re
       does_nr x = elim (x.nr.0 == view.doc.0) as (λ b. (let y : Document = cond b (record x { view = option_map (λ (v : View). after_made v whats.Edit) x.view }) x in y).nr.0 ≡ x.nr.0) [ true ↦ refl | false ↦ refl ]
 
       number : (d.nr.0 == view.doc.0) ≡ true
-      number = (let same : d.nr.0 ≡ view.doc.0 = find_has (λ (x : Document). x.nr.0) view.doc.0 s.documents d to_act.there in rw same (nat_eq_refl view.doc.0))
+      number = (let same : d.nr.0 ≡ view.doc.0 = find_has (λ (x : Document). x.nr.0) view.doc.0 e.start.documents d acts_log.there in rw same (nat_eq_refl view.doc.0))
 
-  -- the request hasn't begun
-  unstarted : asked.q.is_started ≡ false
+  -- its request, which isn't in a check, and hasn't begun
+  abbrev idle_ : IsIdle its_poke.q
+  idle_ = acts.idle_asked e t queue blame stands lasts asks room proc poke first off
+
+  there_log : request_in edits_log.requests poke.req ≡ Some (record its_poke.q { made = Some edit_ })
+  there_log =
+      on_itself e.start.requests poke.req (λ (x : Asked). record x { made = Some edit_ })
+      ∙ ap (λ (o : Option Asked). option_map (λ (x : Asked). record x { made = Some edit_ }) o) its_poke.there
+
+  idle_then : (q : Asked) → request_of edits_log poke.req ≡ Some q → IsIdle q
+  idle_then q at = subst IsIdle (some_same (sym there_log ∙ at)) (record { off = idle_.off; unended = idle_.unended })
+
+  unstarted : its_poke.q.is_started ≡ false
   unstarted =
-      (stands.between.tab.asked.each poke.req asked.q asked.there).unstarted (ap is_traversal asked.what ∙ goes_nowhere view poke.action makes) (ap is_load asked.what)
-
-  abbrev out : List RowKind
-  out = rows.Applied poke.req kinds.Edit ∷ []
-
-  pub edit_acts : e.before ≡ [] → e.actor ≡ actors.Proc proc → e.event ≡ e.start.events → e.own ≡ rows.Made proc (made_for view poke.req whats.Edit) → HasIdled check e (rows.Applied poke.req kinds.Edit ∷ []) t queue blame
-  edit_acts uncut by event own =
-      record {
-        stands = subst (λ (x : Seen). StandsFor check x t queue blame) (sym came) edit_stands;
-        lasts = subst (λ (x : Seen). LastsInLog e.checking x) (sym came) edit_lasts;
-        passes =
-            uncut_pass e out [] uncut (subst (λ (r : LogRow). EachPass (start_of e) (r ∷ map (row_of e) out) []) (sym (own_row e (actors.Proc proc) (rows.Made proc its_made) by own))
-            (subst (λ (a : Actor). EachPass (start_of e) ((let r : LogRow = record { event = e.event; actor = actors.Proc proc; row = rows.Made proc its_made } in r) ∷ (let r : LogRow = record { event = e.event; actor = a; row = rows.Applied poke.req kinds.Edit } in r) ∷ []) []) (sym by)
-            (subst (λ (i : ℕ). EachPass (start_of e) ((let r : LogRow = record { event = i; actor = actors.Proc proc; row = rows.Made proc its_made } in r) ∷ (let r : LogRow = record { event = i; actor = actors.Proc proc; row = rows.Applied poke.req kinds.Edit } in r) ∷ []) []) (sym event) both_pass)));
-      }
+      (stands.between.tab.asked.each poke.req (without_asks its_poke.q) seen_there).unstarted (ap is_traversal its_poke.what ∙ goes_nowhere view poke.action makes) (ap is_load its_poke.what)
     where
-      came : log_of e out ≡ n
-      came =
-          log_more e [] (rows.Applied poke.req kinds.Edit)
-          ∙ ap (λ (x : Seen). next x e.event e.actor (rows.Applied poke.req kinds.Edit)) (log_is e (actors.Proc proc) (rows.Made proc its_made) by own uncut)
-          ∙ ap (λ (a : Actor). next (next s e.event (actors.Proc proc) (rows.Made proc its_made)) e.event a (rows.Applied poke.req kinds.Edit)) by
-          ∙ ap (λ (i : ℕ). next (next s i (actors.Proc proc) (rows.Made proc its_made)) i (actors.Proc proc) (rows.Applied poke.req kinds.Edit)) event
+      seen_there : request_of (seen_start e) poke.req ≡ Some (without_asks its_poke.q)
+      seen_there =
+          found_off e.checking e.start poke.req its_poke.q its_poke.there (ap e.checking (lasts.checks.numbered poke.req its_poke.q its_poke.there) ∙ off)
 
-      both_pass : EachPass (start_of e) ((let r : LogRow = record { event = s.events; actor = actors.Proc proc; row = rows.Made proc its_made } in r) ∷ (let r : LogRow = record { event = s.events; actor = actors.Proc proc; row = rows.Applied poke.req kinds.Edit } in r) ∷ []) []
+  pub edit_acts : e.before ≡ [] → e.actor ≡ actors.Proc proc → e.event ≡ e.start.events → e.own ≡ rows.Made proc (made_for view poke.req whats.Edit) → HasActed check e (rows.Applied poke.req kinds.Edit ∷ []) t queue blame
+  edit_acts uncut by event own =
+      two_act e (actors.Proc proc) (rows.Made proc edit_) by own uncut (rows.Made proc edit_)
+      (made_seen e.checking e.start e.event (actors.Proc proc) proc edit_ (ap (λ (b : Bool). b && is_some e.start.just_finished) (acts.begins_anew e.start.events e.event event)))
+      (rows.Applied poke.req kinds.Edit)
+      (applied_seen e.checking (log_of e []) e.event e.actor poke.req kinds.Edit (λ q at. ap e.checking (numbered q at) ∙ off))
+      t queue blame
+      (subst (λ (i : ℕ). StandsFor check (next (next (seen_start e) i (actors.Proc proc) (rows.Made proc edit_)) i (actors.Proc proc) (rows.Applied poke.req kinds.Edit)) t queue blame) (sym event)
+      (edit_stands (seen_start e) t queue blame stands (seen_room e room) (once_of lasts.shows) proc poke (input_read e.checking e.start proc poke first) (unhandled d) view (found_read e.checking e.start poke.doc d found) has runs makes))
+      edit_lasts (made_beside e.start e.event (actors.Proc proc) proc edit_) (edited_beside edits_log e.event (actors.Proc proc) poke.req idle_then) asks
+      (subst (λ (i : ℕ). EachPass (start_of e) ((let r : LogRow = record { event = i; actor = actors.Proc proc; row = rows.Made proc edit_ } in r) ∷ (let r : LogRow = record { event = i; actor = actors.Proc proc; row = rows.Applied poke.req kinds.Edit } in r) ∷ []) []) (sym event) both_pass)
+    where
+      numbered : (q : Asked) → request_in (log_of e []).requests poke.req ≡ Some q → q.nr ≡ poke.req
+      numbered q at =
+          edit_lasts_first.numbered poke.req q (ap (λ (x : Seen). request_in x.requests poke.req) (sym (log_is e (actors.Proc proc) (rows.Made proc edit_) by own uncut)) ∙ at)
+        where
+          edit_lasts_first : AreInCheck e.checking edits_log
+          edit_lasts_first =
+              row_checks e.checking e.start (record { event = e.event; actor = actors.Proc proc; row = rows.Made proc edit_ }) tt tt lasts.checks
+
+      at_start : ℕ → Seen
+      at_start i = next e.start i (actors.Proc proc) (rows.Made proc edit_)
+
+      both_pass : EachPass (start_of e) ((let r : LogRow = record { event = e.start.events; actor = actors.Proc proc; row = rows.Made proc edit_ } in r) ∷ (let r : LogRow = record { event = e.start.events; actor = actors.Proc proc; row = rows.Applied poke.req kinds.Edit } in r) ∷ []) []
       both_pass = (
-        makes_passes e.header s proc poke asked.q asked.nav d view to_act makes,
+        makes_passes e.header e.start proc poke its_poke.q its_poke.nav d view acts_log makes,
         (
-          applies_passes e.header s proc poke asked.q asked.nav d view to_act makes (record d { view = option_map (λ (v : View). after_made v whats.Edit) d.view }) there_edits edited_document unstarted unheld,
+          applies_passes e.header e.start proc poke its_poke.q its_poke.nav d view acts_log makes (record d { view = option_map (λ (v : View). after_made v whats.Edit) d.view }) (subst (λ (i : ℕ). request_of (at_start i) poke.req ≡ Some (record its_poke.q { made = Some edit_ })) event there_log) (subst (λ (i : ℕ). document_of (at_start i) view.doc ≡ Some (record d { view = option_map (λ (v : View). after_made v whats.Edit) d.view })) event edited_document) unstarted (acts.unheld_log e t queue blame stands lasts asks room proc poke first),
           tt,
         ),
       )

@@ -1,6 +1,6 @@
--- A process finishes an order that sends a document to a fragment, and the document makes an entry of it: the coordinator that stood for the log stands for it still.
+-- A process finishes an order that sends a document to a fragment, and the document makes an entry of it: the coordinator has acted, which does nothing itself, whoever is in a check.
+use Rattle.asking_facts.proofs.Passed.{known_on, known_passed}
 use Rattle.tab_stands.proofs.Logged.{once_of}
-use Rattle.tab_doors.proofs.Uncut.{uncut_pass}
 use Rattle.seen_facts.proofs.Coord.Held.{held_apart, on_else}
 use Rattle.seen_facts.proofs.Coord.Unread.{next}
 use Rattle.seen_facts.proofs.Entry.Stays.{its_number}
@@ -14,9 +14,6 @@ use Rattle.log_model.specs.AfterDocuments.{documents_finished, slot_finished, vi
 use Rattle.log_model.specs.AfterRequests.{on_request}
 use Rattle.log_model.specs.Points.{nav_of_request}
 use Rattle.log_model.specs.declared.job.Job.{Job}
-use Rattle.log_model.specs.declared.row_kind.Actor.{Actor}
-use Rattle.log_model.specs.declared.row_kind.LogRow.{LogRow}
-use Rattle.log_model.specs.declared.row_kind.RowKind.{RowKind}
 use Rattle.tab_facts.proofs.Order.Rows.{orders_after}
 use Rattle.seen_laws.proofs.Keyed.{find_map}
 use Rattle.row_facts.proofs.LeaveRows.FragmentMakes.{fragment_event_passes}
@@ -26,24 +23,31 @@ use Rattle.log_model.specs.AfterRequests.{is_running, requests_finished}
 use Rattle.log_model.specs.Equal.{has_req}
 use Rattle.log_model.specs.Once.{delta_of}
 use Rattle.log_model.specs.Places.{is_load}
-use Rattle.log_model.specs.Seen.{Asked, Document, Seen, desk_of, document_of, request_in, request_of}
+use Rattle.log_model.specs.After.{desk_finished}
+use Rattle.log_model.specs.Seen.{Asked, Desk, Document, Seen, desk_of, document_of, request_in, request_of}
 use Rattle.log_model.specs.Views.{View, after_made, made_for, new_entry, is_fragment_replace}
 use Rattle.log_model.specs.declared.job.Order.{Order}
 use Rattle.log_model.specs.declared.job.Task.{Task}
 use Rattle.log_model.specs.declared.made.Made.{Made}
+use Rattle.log_model.specs.declared.made.Report.TheVariants as reports
+use Rattle.log_model.specs.declared.row_kind.LogRow.{LogRow}
 use Rattle.log_model.specs.declared.request.Mode.{Mode}
 use Rattle.log_model.specs.declared.request.Request.{Request}
 use Rattle.move_queue.specs.Queue.{Queue}
 use Rattle.seen_facts.specs.Each.Items.{Each}
+use Rattle.seen_facts.specs.Request.Cores.{Core}
 use Rattle.seen_facts.proofs.Request.LookUps.{on_itself}
 use Rattle.seen_facts.proofs.Request.Readers.{SameReads, on_read}
-use Rattle.seen_laws.specs.Blocks.{EachPass}
-use Rattle.seen_laws.proofs.InEvents.{log_more}
-use Rattle.seen_laws.specs.InEvent.{InEvent, log_of, row_of, start_of}
+use Rattle.seen_laws.proofs.Desks.{desk_on_same}
+use Rattle.seen_laws.specs.Blocks.{EachPass, point_at}
+use Rattle.seen_laws.specs.InEvent.{InEvent, IsReadOff, log_of, start_of}
+use Rattle.seen_laws.specs.Unasked.{is_question, unhandled}
 use Rattle.std.proofs.Common.{Bool, List, None, Option, Some, [], ap, arith, cond, eqb-true, false, map, not, refl, subst, sym, true, ℕ, ℤ, ◌++◌, ◌&&◌, ◌==◌, ◌∙◌, ◌∷◌, ◌≡◌}
 use Rattle.std.specs.Prelude.{find, is_none, is_some, length, option_map, option_to_list}
-use Rattle.tab_acts.proofs.Events.{log_is, own_row}
+use Rattle.tab_acts.proofs.Checks.{finished_beside, made_beside}
+use Rattle.tab_acts.proofs.Events.{log_is, seen_room, two_act}
 use Rattle.tab_acts.proofs.Left.{StaysTold, changes_kept, left_stands}
+use Rattle.tab_acts.proofs.Readings.{core_same, found_read, hand_read}
 use Rattle.tab_stands.proofs.Coming.{bare}
 use Rattle.tab_doors.proofs.Sights.{IsSeen, seen_of, sight_of, sights_same, unseen_at}
 use Rattle.tab_doors.specs.Look.{Sight, sight, sight_in}
@@ -61,7 +65,11 @@ use Rattle.tab_ids.specs.declared.StateId.{StateId}
 use Rattle.tab_stands.proofs.EpochRows.{finished_under, made_under}
 use Rattle.tab_stands.proofs.PassedOn.{finished_duly, row_checks, row_duly, unstood_by}
 use Rattle.tab_stands.specs.PassedOn.{IsByItsOwn, IsOfItsLoad, IsSoundTask, LoadsMadeOwn, is_new_entry}
-use Rattle.tab_stands.specs.Standing.{HasIdled, HasRoomFor, InCheck, LastsInLog, StandsFor}
+use Rattle.tab_stands.specs.Checked.{ChecksStand}
+use Rattle.tab_stands.specs.Offs.{AreShownOnce}
+use Rattle.tab_stands.specs.Standing.{HasActed, HasRoomFor, InCheck, LastsInLog, StandsFor, seen_start}
+use Rattle.unasked.proofs.Readings.{found_from}
+use Rattle.unasked.proofs.Works.{finished_seen, joined_seen}
 use Rattle.tab_facts.proofs.TabWhole.Fragments.{IsToFragment}
 use Rattle.tab_facts.proofs.TabWhole.Working.{in_hand_lives}
 use Rattle.seen_facts.specs.Transit.Orders.{IsOutcomeOf}
@@ -84,12 +92,12 @@ fragment_new view mode address = by_push (not (is_fragment_replace view mode add
     by_push false = refl
 
 -- the load that waits: it has no outcome, and nothing was made of it
-record IsOpenLoad (s : Seen) (req : ReqId) : Type 0 where
-  q : Asked
-  nav : NavId
-  mode : Mode
-  address : List ℕ
-  is : IsUnmadeLoad s req q nav mode address
+pub record IsOpenLoad (s : Seen) (req : ReqId) : Type 0 where
+  pub q : Asked
+  pub nav : NavId
+  pub mode : Mode
+  pub address : List ℕ
+  pub is : IsUnmadeLoad s req q nav mode address
 
 open_load : (s : Seen) (req : ReqId) (w : IsWaiting s req) → is_load w.q.what ≡ true → IsOpenLoad s req
 open_load s req w load = by_what w.q.what refl load
@@ -113,20 +121,19 @@ open_load s req w load = by_what w.q.what refl load
     by_what (requests.Poke nav action) is never = absurd cc
     by_what (requests.Reload nav) is never = absurd cc
 
-module _ (e : InEvent) (t : Tables) (queue : Queue) (blame : List (StateId × ReqId)) {check : InCheck} (stands : StandsFor check e.start t queue blame) (lasts : LastsInLog e.checking e.start) (room : HasRoomFor e.start) (proc : ProcId) (order : Order) (req : ReqId) (mode : Mode) (address : List ℕ) (d : Document) (view : View) (to : IsToFragment e.start proc order req mode address d view) where
-  abbrev s : Seen
-  s = e.start
+-- ---- the tables, of whatever the log has come to
 
+module _ (s : Seen) (event : ℕ) (t : Tables) (queue : Queue) (blame : List (StateId × ReqId)) {check : InCheck} (stands : StandsFor check s t queue blame) (room : HasRoomFor s) (once : AreShownOnce s.places) (proc : ProcId) (order : Order) (req : ReqId) (mode : Mode) (address : List ℕ) (d : Document) (view : View) (to : IsToFragment s proc order req mode address d view) where
   abbrev half : Seen
-  half = next s e.event (actors.Proc proc) (rows.Finished proc order.job.nr outcomes.Fragmented)
+  half = next s event (actors.Proc proc) (rows.Finished proc order.job.nr outcomes.Fragmented)
 
   abbrev made : Made
   made = made_for view req (fragment_of view mode address)
 
   abbrev n : Seen
-  n = next half e.event (actors.Proc proc) (rows.Made proc (made_for view req (fragment_of view mode address)))
+  n = next half event (actors.Proc proc) (rows.Made proc (made_for view req (fragment_of view mode address)))
 
-  load : IsOpenLoad s req
+  pub load : IsOpenLoad s req
   load =
       let w : IsWaiting s req = in_hand_waits s stands.between.tab.fragments.once proc order req mode address to.in_hand to.task in
       open_load s req w (waiting_load s stands.between.tab.fragments req w)
@@ -134,7 +141,7 @@ module _ (e : InEvent) (t : Tables) (queue : Queue) (blame : List (StateId × Re
   unheld : has_req s.parked req ≡ false
   unheld = unmade_unheld s req load.q load.nav load.mode load.address load.is stands.between.tab.known
 
-  number : view.doc ≡ order.job.doc
+  pub number : view.doc ≡ order.job.doc
   number =
       (stands.between.tab.docs.each order.job.doc d to.found).live.viewed view to.has ∙ ap (λ (i : ℕ). let x : DocId = record { 0 = i } in x) (its_number s.documents order.job.doc d to.found)
 
@@ -211,7 +218,7 @@ module _ (e : InEvent) (t : Tables) (queue : Queue) (blame : List (StateId × Re
         ended = (let same : count_of has_ended n.requests ≡ count_of has_ended s.requests = same_count has_ended (λ q. refl) (λ q. refl) in omega (arith, same));
         long = ap (λ (l : List Asked). length l) requests_are ∙ as_many (on_request req found s.requests) req with_made ∙ as_many s.requests req found;
         step = refl;
-        unstood = λ off away. unstood_by half (record { event = e.event; actor = actors.Proc proc; row = rows.Made proc made }) refl away (unstood_by s (record { event = e.event; actor = actors.Proc proc; row = rows.Finished proc order.job.nr outcomes.Fragmented }) refl away off);
+        unstood = λ off away. unstood_by half (record { event = event; actor = actors.Proc proc; row = rows.Made proc made }) refl away (unstood_by s (record { event = event; actor = actors.Proc proc; row = rows.Finished proc order.job.nr outcomes.Fragmented }) refl away off);
       }
 
   -- ---- what was made is the load's, by a document of its navigable
@@ -253,7 +260,7 @@ module _ (e : InEvent) (t : Tables) (queue : Queue) (blame : List (StateId × Re
 
   half_lasting : AreLasting half
   half_lasting =
-      finished_lasting s e.event (actors.Proc proc) stands.lasts.lasting stands.between.tab.desks proc order outcomes.Fragmented
+      finished_lasting s event (actors.Proc proc) stands.lasts.lasting stands.between.tab.desks proc order outcomes.Fragmented
 
   -- its document is as it was in between
   done_nr : (x : Document) → (done x).nr.0 ≡ x.nr.0
@@ -281,52 +288,118 @@ module _ (e : InEvent) (t : Tables) (queue : Queue) (blame : List (StateId × Re
       let never : None ≡ Some delta = ap delta_of (sym load.is.what) ∙ ap (λ (x : Asked). delta_of x.what) is ∙ asks in absurd cc
 
   lasting : AreLasting n
-  lasting = made_lasting half e.event (actors.Proc proc) half_lasting proc made d view half_found to.has to.runs refl goes
+  lasting = made_lasting half event (actors.Proc proc) half_lasting proc made d view half_found to.has to.runs refl goes
 
-  fragment_lasts : LastsInLog e.checking n
+  pub fragment_stands : StandsFor check (next (next s event (actors.Proc proc) (rows.Finished proc order.job.nr outcomes.Fragmented)) event (actors.Proc proc) (rows.Made proc (made_for view req (fragment_of view mode address)))) t queue blame
+  fragment_stands =
+      left_stands s t queue blame stands room n
+      (but_of t.running s n (left_twice t.running s half n (finished_left t.running s event (actors.Proc proc) proc order outcomes.Fragmented to.in_hand) (made_left t.running half event (actors.Proc proc) proc made)))
+      told (fragment_made_between t.kept.keep t.running s event proc stands.between order req mode address d view to) lasting
+      (λ F are. orders_after F half event (actors.Proc proc) (rows.Made proc made) tt (λ job is. cc) (orders_after F s event (actors.Proc proc) (rows.Finished proc order.job.nr outcomes.Fragmented) tt (λ job is. cc) are)) theirs
+      (were_shown half event (actors.Proc proc) (were_shown s event (actors.Proc proc) stands.lasts.were (rows.Finished proc order.job.nr outcomes.Fragmented) tt) (rows.Made proc made) tt)
+      once
+
+  pub home : d.proc ≡ proc
+  home =
+      (in_hand_lives t.running s event proc stands.between.tab stands.between.flows order outcomes.Fragmented to.in_hand (subst (λ (k : Task). IsOutcomeOf k outcomes.Fragmented) (sym to.task) tt) tt).home d to.found
+
+-- ---- the event, of the log itself
+
+module _ (e : InEvent) (t : Tables) (queue : Queue) (blame : List (StateId × ReqId)) {check : InCheck} (stands : StandsFor check (seen_start e) t queue blame) (lasts : LastsInLog e.checking e.start) (asks : ChecksStand e.checking e.start t.checks) (room : HasRoomFor e.start) (proc : ProcId) (order : Order) (req : ReqId) (mode : Mode) (address : List ℕ) (d : Document) (view : View) (to : IsToFragment e.start proc order req mode address d view) where
+  abbrev its_made : Made
+  its_made = made_for view req (fragment_of view mode address)
+
+  abbrev half_log : Seen
+  half_log = next e.start e.event (actors.Proc proc) (rows.Finished proc order.job.nr outcomes.Fragmented)
+
+  shown_once : AreShownOnce (seen_start e).places
+  shown_once = once_of lasts.shows
+
+  -- it is no question
+  silent : is_question order.job.task ≡ false
+  silent = ap (λ (k : Task). is_question k) to.task
+
+  -- as it would be had nobody been asked
+  seen_to : IsToFragment (seen_start e) proc order req mode address (unhandled d) view
+  seen_to =
+      record {
+        in_hand = hand_read e.checking e.start proc order to.in_hand silent;
+        task = to.task;
+        found = found_read e.checking e.start order.job.doc d to.found;
+        has = to.has;
+        runs = to.runs;
+      }
+
+  in_hand : IsFragmentInHand e.start proc order req mode address d view
+  in_hand =
+      record {
+        hand = to.in_hand;
+        task = to.task;
+        found = to.found;
+        home = home (seen_start e) e.event t queue blame stands (seen_room e room) shown_once proc order req mode address (unhandled d) view seen_to;
+        has = to.has;
+        of = number (seen_start e) e.event t queue blame stands (seen_room e room) shown_once proc order req mode address (unhandled d) view seen_to;
+        runs = to.runs;
+      }
+
+  -- the load that waits, of which nothing was made
+  record IsUnmade : Type 0 where
+    q : Asked
+    found : request_of e.start req ≡ Some q
+    unmade : q.made ≡ None
+
+  its_load : IsUnmade
+  its_load =
+      let its = (load (seen_start e) e.event t queue blame stands (seen_room e room) shown_once proc order req mode address (unhandled d) view seen_to).is in
+      let from = found_from e.checking e.start req _ its.asked in
+      record {
+        q = from.0;
+        found = from.1;
+        unmade = sym (ap (λ (c : Core). c.made) (core_same e.checking e.start from.0)) ∙ sym (ap (λ (x : Asked). x.made) from.2) ∙ its.unmade;
+      }
+
+  both_pass : EachPass (start_of e) ((let r : LogRow = record { event = e.event; actor = actors.Proc proc; row = rows.Finished proc order.job.nr outcomes.Fragmented } in r) ∷ (let r : LogRow = record { event = e.event; actor = actors.Proc proc; row = rows.Made proc (made_for view req (fragment_of view mode address)) } in r) ∷ []) []
+  both_pass = fragment_event_passes e.header e.start e.event proc order req mode address d view in_hand its_load.q its_load.found its_load.unmade
+
+  fragment_lasts : LastsInLog e.checking (next half_log e.event (actors.Proc proc) (rows.Made proc (made_for view req (fragment_of view mode address))))
   fragment_lasts =
       record {
         checks =
-            row_checks e.checking half (record { event = e.event; actor = actors.Proc proc; row = rows.Made proc made }) tt tt
-            (row_checks e.checking s (record { event = e.event; actor = actors.Proc proc; row = rows.Finished proc order.job.nr outcomes.Fragmented }) tt tt lasts.checks);
-        shows = made_under half e.event (actors.Proc proc) proc made (finished_under s e.event (actors.Proc proc) proc order.job.nr outcomes.Fragmented lasts.shows);
-        duly = row_duly half e.event (actors.Proc proc) (finished_duly s e.event (actors.Proc proc) lasts.duly proc order outcomes.Fragmented to.in_hand (λ slot is. cc)) (rows.Made proc made) tt;
+            row_checks e.checking half_log (record { event = e.event; actor = actors.Proc proc; row = rows.Made proc its_made }) tt tt
+            (row_checks e.checking e.start (record { event = e.event; actor = actors.Proc proc; row = rows.Finished proc order.job.nr outcomes.Fragmented }) tt tt lasts.checks);
+        shows = made_under half_log e.event (actors.Proc proc) proc its_made (finished_under e.start e.event (actors.Proc proc) proc order.job.nr outcomes.Fragmented lasts.shows);
+        duly = row_duly half_log e.event (actors.Proc proc) (finished_duly e.start e.event (actors.Proc proc) lasts.duly proc order outcomes.Fragmented to.in_hand (λ slot is. cc)) (rows.Made proc its_made) tt;
+        known =
+            known_on half_log (record { event = e.event; actor = actors.Proc proc; row = rows.Made proc its_made }) tt tt tt tt
+            (known_passed e.header (point_at (start_of e) ((let r : LogRow = record { event = e.event; actor = actors.Proc proc; row = rows.Made proc its_made } in r) ∷ [])) (record { event = e.event; actor = actors.Proc proc; row = rows.Finished proc order.job.nr outcomes.Fragmented }) both_pass.0 tt lasts.known);
       }
 
-  pub fragment_stands : StandsFor check (next (next e.start e.event (actors.Proc proc) (rows.Finished proc order.job.nr outcomes.Fragmented)) e.event (actors.Proc proc) (rows.Made proc (made_for view req (fragment_of view mode address)))) t queue blame
-  fragment_stands =
-      left_stands s t queue blame stands room n
-      (but_of t.running s n (left_twice t.running s half n (finished_left t.running s e.event (actors.Proc proc) proc order outcomes.Fragmented to.in_hand) (made_left t.running half e.event (actors.Proc proc) proc made)))
-      told (fragment_made_between t.kept.keep t.running s e.event proc stands.between order req mode address d view to) lasting
-      (λ F are. orders_after F half e.event (actors.Proc proc) (rows.Made proc made) tt (λ job is. cc) (orders_after F s e.event (actors.Proc proc) (rows.Finished proc order.job.nr outcomes.Fragmented) tt (λ job is. cc) are)) theirs
-      (were_shown half e.event (actors.Proc proc) (were_shown s e.event (actors.Proc proc) stands.lasts.were (rows.Finished proc order.job.nr outcomes.Fragmented) tt) (rows.Made proc made) tt)
-      (once_of fragment_lasts.shows)
-
-  -- ---- the event
-
-  abbrev out : List RowKind
-  out = rows.Made proc (made_for view req (fragment_of view mode address)) ∷ []
-
-  in_hand : IsFragmentInHand s proc order req mode address d view
-  in_hand =
-      record { hand = to.in_hand; task = to.task; found = to.found; home = home; has = to.has; of = number; runs = to.runs }
-    where
-      home : d.proc ≡ proc
-      home = (in_hand_lives t.running s e.event proc stands.between.tab stands.between.flows order outcomes.Fragmented to.in_hand (subst (λ (k : Task). IsOutcomeOf k outcomes.Fragmented) (sym to.task) tt) tt).home d to.found
-
-  pub fragment_acts : e.before ≡ [] → e.actor ≡ actors.Proc proc → e.own ≡ rows.Finished proc order.job.nr outcomes.Fragmented → HasIdled check e (rows.Made proc (made_for view req (fragment_of view mode address)) ∷ []) t queue blame
+  pub fragment_acts : e.before ≡ [] → e.actor ≡ actors.Proc proc → e.own ≡ rows.Finished proc order.job.nr outcomes.Fragmented → HasActed check e (rows.Made proc (made_for view req (fragment_of view mode address)) ∷ []) t queue blame
   fragment_acts uncut by own =
-      record {
-        stands = subst (λ (x : Seen). StandsFor check x t queue blame) (sym came) fragment_stands;
-        lasts = subst (λ (x : Seen). LastsInLog e.checking x) (sym came) fragment_lasts;
-        passes =
-            uncut_pass e out [] uncut (subst (λ (r : LogRow). EachPass (start_of e) (r ∷ map (row_of e) out) []) (sym (own_row e (actors.Proc proc) (rows.Finished proc order.job.nr outcomes.Fragmented) by own))
-            (subst (λ (a : Actor). EachPass (start_of e) ((let r : LogRow = record { event = e.event; actor = actors.Proc proc; row = rows.Finished proc order.job.nr outcomes.Fragmented } in r) ∷ (let r : LogRow = record { event = e.event; actor = a; row = rows.Made proc made } in r) ∷ []) []) (sym by)
-            (fragment_event_passes e.header s e.event proc order req mode address d view in_hand load.q load.is.asked load.is.unmade)));
-      }
+      two_act e (actors.Proc proc) (rows.Finished proc order.job.nr outcomes.Fragmented) by own uncut (rows.Finished proc order.job.nr outcomes.Fragmented)
+      (finished_seen e.checking e.start e.event (actors.Proc proc) proc order.job.nr outcomes.Fragmented order to.in_hand silent)
+      (rows.Made proc its_made) joined
+      t queue blame
+      (fragment_stands (seen_start e) e.event t queue blame stands (seen_room e room) shown_once proc order req mode address (unhandled d) view seen_to)
+      fragment_lasts
+      (finished_beside e.start e.event (actors.Proc proc) proc order.job.nr outcomes.Fragmented tt)
+      (made_beside half_log e.event (actors.Proc proc) proc its_made)
+      asks
+      both_pass
     where
-      came : log_of e out ≡ n
-      came =
-          log_more e [] (rows.Made proc made)
-          ∙ ap (λ (x : Seen). next x e.event e.actor (rows.Made proc made)) (log_is e (actors.Proc proc) (rows.Finished proc order.job.nr outcomes.Fragmented) by own uncut)
-          ∙ ap (λ (a : Actor). next half e.event a (rows.Made proc made)) by
+      first_is : log_of e [] ≡ half_log
+      first_is = log_is e (actors.Proc proc) (rows.Finished proc order.job.nr outcomes.Fragmented) by own uncut
+
+      reports_then : (desk_of half_log proc).reports ≡ (desk_of e.start proc).reports ++ reports.Done order.job outcomes.Fragmented None ∷ []
+      reports_then =
+          ap (λ (desk : Desk). desk.reports) (desk_on_same (desk_finished outcomes.Fragmented) e.start.desks proc (λ desk. refl))
+          ∙ ap (λ (o : Option Order). (desk_finished outcomes.Fragmented (record (desk_of e.start proc) { in_hand = o })).reports) to.in_hand
+
+      -- what was made joins the report of the order
+      joined : IsReadOff e [] (rows.Made proc its_made)
+      joined =
+          joined_seen e.checking (log_of e []) e.event e.actor proc its_made (desk_of e.start proc).reports order.job outcomes.Fragmented None
+          (ap (λ (x : Seen). x.events) first_is)
+          (ap (λ (x : Seen). x.just_finished) first_is ∙ ap (λ (o : Option Order). option_map (λ (x : Order). x.job) o) to.in_hand)
+          (ap (λ (x : Seen). (desk_of x proc).reports) first_is ∙ reports_then)
+          silent

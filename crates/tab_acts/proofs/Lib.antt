@@ -1,6 +1,9 @@
 pub mod Left
+pub mod Checks
+pub mod Readings
 pub mod Events
 pub mod Orders
+pub mod Acted
 pub mod Acts
 pub mod Fragments
 pub mod Told

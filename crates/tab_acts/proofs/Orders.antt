@@ -1,4 +1,5 @@
--- A process takes up an order, or finishes one that is no fragment order: the coordinator that stood for the log stands for it still.
+-- A process takes up an order, or finishes one that is no fragment order, either of which is no question: the coordinator has acted, which does nothing itself, whoever is in a check.
+use Rattle.asking_facts.proofs.Passed.{known_on, known_passed}
 use Rattle.tab_stands.proofs.Logged.{once_of}
 use Rattle.seen_facts.proofs.Coord.Unread.{next}
 use Rattle.seen_facts.specs.Coord.Leading.{held_back}
@@ -13,29 +14,29 @@ use Rattle.log_model.specs.AfterRequests.{requests_finished}
 use Rattle.log_model.specs.Equal.{holds}
 use Rattle.log_model.specs.Formed.{is_followed_duly}
 use Rattle.log_model.specs.Outcomes.{is_outcome_of}
-use Rattle.log_model.specs.Seen.{Asked, Document, Seen, desk_of, document_of, request_in}
+use Rattle.log_model.specs.Seen.{Asked, Desk, Document, Seen, desk_of, document_of, request_in}
 use Rattle.log_model.specs.Suits.{is_slotted}
 use Rattle.log_model.specs.Views.{View}
-use Rattle.log_model.specs.declared.header.Header.{Header}
 use Rattle.log_model.specs.declared.job.Job.{Job}
 use Rattle.log_model.specs.declared.job.Order.{Order}
 use Rattle.log_model.specs.declared.job.Task.{Task}
 use Rattle.log_model.specs.declared.outcome.Outcome.{Outcome}
-use Rattle.log_model.specs.declared.row_kind.LogRow.{LogRow}
 use Rattle.log_model.proofs.Refl.{nat_eq_refl}
 use Rattle.move_queue.specs.Queue.{Queue}
 use Rattle.tab_facts.proofs.Order.Rows.{orders_after}
 use Rattle.seen_facts.proofs.Rest.Still.{found_itself}
 use Rattle.seen_laws.proofs.Processes.{taken_passes}
 use Rattle.seen_laws.specs.InEvent.{InEvent}
+use Rattle.seen_laws.specs.Unasked.{is_question, without_slot}
 use Rattle.seen_laws.specs.Blocks.{Passes}
 use Rattle.std.proofs.Common.{Bool, List, None, Option, Some, [], ap, arith, cond, false, inl, inr, length, map, refl, subst, sym, true, ℕ, ◌++◌, ◌==◌, ◌∙◌, ◌∷◌, ◌≡◌, ◌≤◌}
 use Rattle.std.proofs.lemmas.List.{map-id}
 use Rattle.std.specs.Prelude.{option_map, option_to_list, slice_get}
-use Rattle.tab_acts.proofs.Events.{alone_acts}
+use Rattle.tab_acts.proofs.Checks.{finished_beside, taken_beside}
+use Rattle.tab_acts.proofs.Events.{alone_acts, seen_room}
 use Rattle.tab_acts.proofs.Left.{StaysTold, changes_kept, left_stands}
+use Rattle.tab_acts.proofs.Readings.{free_read, hand_read, mail_read}
 use Rattle.tab_stands.proofs.Coming.{bare as as_read}
-use Rattle.tab_acts.specs.Pages.{HasNoPages}
 use Rattle.tab_doors.proofs.Sights.{IsSeen, seen_of, sight_of, sights_same, unseen_at}
 use Rattle.tab_doors.specs.Look.{Sight, sight, sight_in}
 use Rattle.tab_doors.specs.declared.tables.Tables.{Tables}
@@ -53,9 +54,15 @@ use Rattle.tab_ids.specs.declared.StateId.{StateId}
 use Rattle.tab_stands.proofs.EpochRows.{finished_under, taken_under}
 use Rattle.tab_stands.proofs.PassedOn.{finished_duly, is_made, row_checks, row_duly, unstood_by}
 use Rattle.tab_stands.specs.PassedOn.{IsSoundTask, LoadsMadeOwn}
-use Rattle.tab_stands.specs.Standing.{HasIdled, HasRoomFor, InCheck, LastsInLog, StandsFor}
+use Rattle.tab_stands.specs.Checked.{ChecksStand}
+use Rattle.tab_stands.specs.Offs.{AreShownOnce}
+use Rattle.tab_stands.specs.Standing.{HasActed, HasRoomFor, InCheck, LastsInLog, StandsFor, seen_start}
 use Rattle.tab_facts.proofs.TabWhole.Working.{taken_lives, unready}
+use Rattle.check_facts.specs.Rows.{IsNoAnswerOf}
 use Rattle.seen_facts.specs.Transit.Orders.{IsOutcomeOf}
+use Rattle.unasked.proofs.Events.{taken_seen}
+use Rattle.unasked.proofs.Readings.{desk_read, tested_read}
+use Rattle.unasked.proofs.Works.{finished_seen}
 use Rattle.log_model.specs.declared.job.Task.TheVariants as tasks
 use Rattle.log_model.specs.declared.outcome.Outcome.TheVariants as outcomes
 use Rattle.log_model.specs.declared.row_kind.Actor.TheVariants as actors
@@ -68,15 +75,14 @@ theirs_same s n same homes theirs req q made found load makes =
     let d = homes made.doc its.0.d its.0.found in
     (record { d = d.0; found = d.1; nav_is = its.0.nav_is ∙ ap (λ (x : NavId). let o : Option NavId = Some x in o) (sym d.2) }, its.1)
 
-module _ (e : InEvent) (t : Tables) (queue : Queue) (blame : List (StateId × ReqId)) {check : InCheck} (stands : StandsFor check e.start t queue blame) (lasts : LastsInLog e.checking e.start) (room : HasRoomFor e.start) (proc : ProcId) where
-  abbrev s : Seen
-  s = e.start
+-- ---- the tables, of whatever the log has come to
 
+module _ (s : Seen) (event : ℕ) (t : Tables) (queue : Queue) (blame : List (StateId × ReqId)) {check : InCheck} (stands : StandsFor check s t queue blame) (room : HasRoomFor s) (once : AreShownOnce s.places) (proc : ProcId) where
   -- ---- an order is taken up
 
-  module _ (job : Job) (dirty : Bool) (free : (desk_of e.start proc).in_hand ≡ None) (first : slice_get (desk_of e.start proc).mail 0 ≡ Some job) where
+  module _ (job : Job) (dirty : Bool) (free : (desk_of s proc).in_hand ≡ None) (first : slice_get (desk_of s proc).mail 0 ≡ Some job) where
     abbrev took : Seen
-    took = next s e.event (actors.Proc proc) (rows.Taken proc job.nr true dirty)
+    took = next s event (actors.Proc proc) (rows.Taken proc job.nr true dirty)
 
     took_left : IsLeft t.running s took
     took_left =
@@ -84,35 +90,21 @@ module _ (e : InEvent) (t : Tables) (queue : Queue) (blame : List (StateId × Re
 
     took_told : StaysTold s took
     took_told =
-        record { sights = refl; ways = λ r. refl; changes = changes_kept s.requests took.requests (λ r. refl); held = refl; jobs = refl; states = refl; entries = refl; initial = refl; spent = omega arith; ended = omega arith; long = refl; step = refl; unstood = λ off away. unstood_by s (record { event = e.event; actor = actors.Proc proc; row = rows.Taken proc job.nr true dirty }) refl away off }
+        record { sights = refl; ways = λ r. refl; changes = changes_kept s.requests took.requests (λ r. refl); held = refl; jobs = refl; states = refl; entries = refl; initial = refl; spent = omega arith; ended = omega arith; long = refl; step = refl; unstood = λ off away. unstood_by s (record { event = event; actor = actors.Proc proc; row = rows.Taken proc job.nr true dirty }) refl away off }
 
-    taken_lasts : LastsInLog e.checking took
-    taken_lasts =
-        record {
-          checks = row_checks e.checking s (record { event = e.event; actor = actors.Proc proc; row = rows.Taken proc job.nr true dirty }) tt tt lasts.checks;
-          shows = taken_under s e.event (actors.Proc proc) proc job.nr true dirty lasts.shows;
-          duly = row_duly s e.event (actors.Proc proc) lasts.duly (rows.Taken proc job.nr true dirty) tt;
-        }
-
-    pub taken_stands : StandsFor check (next e.start e.event (actors.Proc proc) (rows.Taken proc job.nr true dirty)) t queue blame
+    pub taken_stands : StandsFor check (next s event (actors.Proc proc) (rows.Taken proc job.nr true dirty)) t queue blame
     taken_stands =
-        left_stands s t queue blame stands room took (but_of t.running s took took_left) took_told (taken_between t.kept.keep t.running s e.event proc stands.between job dirty free first) (taken_lasting s e.event (actors.Proc proc) stands.lasts.lasting proc job dirty)
-        (λ F. orders_after F s e.event (actors.Proc proc) (rows.Taken proc job.nr true dirty) tt (λ x is. cc))
+        left_stands s t queue blame stands room took (but_of t.running s took took_left) took_told (taken_between t.kept.keep t.running s event proc stands.between job dirty free first) (taken_lasting s event (actors.Proc proc) stands.lasts.lasting proc job dirty)
+        (λ F. orders_after F s event (actors.Proc proc) (rows.Taken proc job.nr true dirty) tt (λ x is. cc))
         (theirs_same s took refl (λ doc d found. (d, found, refl)) stands.lasts.made)
-        (were_shown s e.event (actors.Proc proc) stands.lasts.were (rows.Taken proc job.nr true dirty) tt)
-        (once_of taken_lasts.shows)
-
-    pub taken_acts : (uncut : e.before ≡ []) (by : e.actor ≡ actors.Proc proc) (event : e.event ≡ e.start.events) (is_dirty : dirty ≡ holds (λ (d : Document). holds (λ (view : View). view.dirty) d.view) (document_of e.start job.doc)) (own : e.own ≡ rows.Taken proc job.nr true dirty) → HasIdled check e [] t queue blame
-    taken_acts uncut by event is_dirty own =
-        alone_acts e (actors.Proc proc) (rows.Taken proc job.nr true dirty) by own uncut event t queue blame taken_stands taken_lasts
-        (subst (λ (b : Bool). Passes e.header (record { start = e.start; now = e.start; done = []; later = [] }) (record { event = e.start.events; actor = actors.Proc proc; row = rows.Taken proc job.nr true b })) (sym is_dirty)
-        (taken_passes e.header s s.events proc job free first (taken_lives t.running s e.event proc stands.between.tab stands.between.flows job dirty free first)))
+        (were_shown s event (actors.Proc proc) stands.lasts.were (rows.Taken proc job.nr true dirty) tt)
+        once
 
   -- ---- an order is finished
 
-  module _ (order : Order) (outcome : Outcome) (hand : (desk_of e.start proc).in_hand ≡ Some order) (its : IsOutcomeOf order.job.task outcome) (bare : HasNoSlot outcome) (other : IsNoFragment order.job.task) where
+  module _ (order : Order) (outcome : Outcome) (hand : (desk_of s proc).in_hand ≡ Some order) (its : IsOutcomeOf order.job.task outcome) (bare : HasNoSlot outcome) (other : IsNoFragment order.job.task) where
     abbrev did : Seen
-    did = next s e.event (actors.Proc proc) (rows.Finished proc order.job.nr outcome)
+    did = next s event (actors.Proc proc) (rows.Finished proc order.job.nr outcome)
 
     -- nobody is asked
     asks_none : IsSoundTask s order.job.doc order.job.task
@@ -139,7 +131,7 @@ module _ (e : InEvent) (t : Tables) (queue : Queue) (blame : List (StateId × Re
     -- ---- what is told of the documents
 
     did_left : IsLeft t.running s did
-    did_left = finished_left t.running s e.event (actors.Proc proc) proc order outcome hand
+    did_left = finished_left t.running s event (actors.Proc proc) proc order outcome hand
 
     no_slots : (x : Document) → Has s.documents x → x.slot ≡ None
     no_slots x has =
@@ -193,7 +185,7 @@ module _ (e : InEvent) (t : Tables) (queue : Queue) (blame : List (StateId × Re
           ended = subst (λ (l : List Asked). count_of has_ended s.requests ≤ count_of has_ended l) (sym requests_same) (omega arith);
           long = ap (λ (l : List Asked). length l) requests_same;
           step = refl;
-          unstood = λ off away. unstood_by s (record { event = e.event; actor = actors.Proc proc; row = rows.Finished proc order.job.nr outcome }) refl away off;
+          unstood = λ off away. unstood_by s (record { event = event; actor = actors.Proc proc; row = rows.Finished proc order.job.nr outcome }) refl away off;
         }
 
     homes : (doc : DocId) (d : Document) → document_of s doc ≡ Some d → (new : Document) × (document_of did doc ≡ Some new) × (new.nav ≡ d.nav)
@@ -202,7 +194,7 @@ module _ (e : InEvent) (t : Tables) (queue : Queue) (blame : List (StateId × Re
         (seen.document, seen.found, ap (λ (x : Sight). x.nav) seen.is)
 
     -- where it makes a document, this isn't made yet
-    unmade : (slot : Option ℕ) → outcome ≡ outcomes.Populated slot → is_made s.documents order.job.doc ≡ false
+    pub unmade : (slot : Option ℕ) → outcome ≡ outcomes.Populated slot → is_made s.documents order.job.doc ≡ false
     unmade slot is = by_task order.job.task refl (subst (λ (o : Outcome). IsOutcomeOf order.job.task o) is its)
       where
         by_found : (o : Option Document) → document_of s order.job.doc ≡ o → ((x : Document) → document_of s order.job.doc ≡ Some x → x.is_ready ≡ false) → holds (λ (x : Document). x.is_ready) o ≡ false
@@ -211,50 +203,120 @@ module _ (e : InEvent) (t : Tables) (queue : Queue) (blame : List (StateId × Re
 
         by_task : (task : Task) → order.job.task ≡ task → IsOutcomeOf task (outcomes.Populated slot) → is_made s.documents order.job.doc ≡ false
         by_task (tasks.Populate nav state address initial) task out =
-            by_found (document_of s order.job.doc) refl (λ x found. unready t.running s e.event proc stands.between.tab stands.between.flows order outcome hand its bare (tasks.Populate nav state address initial) task x found)
+            by_found (document_of s order.job.doc) refl (λ x found. unready t.running s event proc stands.between.tab stands.between.flows order outcome hand its bare (tasks.Populate nav state address initial) task x found)
         by_task _ task out = elim out [ ]
 
-    finished_lasts : LastsInLog e.checking did
-    finished_lasts =
+    pub finished_stands : StandsFor check (next s event (actors.Proc proc) (rows.Finished proc order.job.nr outcome)) t queue blame
+    finished_stands =
+        left_stands s t queue blame stands room did (but_of t.running s did did_left) did_told (finished_between t.kept.keep t.running s event proc stands.between order outcome hand its bare other)
+        (finished_lasting s event (actors.Proc proc) stands.lasts.lasting stands.between.tab.desks proc order outcome)
+        (λ F. orders_after F s event (actors.Proc proc) (rows.Finished proc order.job.nr outcome) tt (λ x is. cc))
+        (theirs_same s did requests_same homes stands.lasts.made)
+        (were_shown s event (actors.Proc proc) stands.lasts.were (rows.Finished proc order.job.nr outcome) tt)
+        once
+
+-- ---- the event, of the log itself
+
+-- an outcome without a handler is one of its task
+with_bare : (task : Task) (o : Outcome) → IsOutcomeOf task o → IsOutcomeOf task (without_slot o)
+with_bare (tasks.Populate nav state address initial) (outcomes.Populated slot) its = tt
+with_bare (tasks.Activate entry epoch long at memo address) outcomes.Activated its = tt
+with_bare (tasks.Update long at) outcomes.Updated its = tt
+with_bare tasks.Discard outcomes.Discarded its = tt
+with_bare tasks.Freeze outcomes.Frozen its = tt
+with_bare (tasks.Ask slot cause) (outcomes.Asked verdict) its = tt
+with_bare (tasks.DoFragment req mode address) outcomes.Fragmented its = tt
+with_bare _ _ its = elim its [ ]
+
+none_slotted : (o : Outcome) → HasNoSlot (without_slot o)
+none_slotted (outcomes.Populated slot) = refl
+none_slotted outcomes.Activated = tt
+none_slotted outcomes.Updated = tt
+none_slotted outcomes.Frozen = tt
+none_slotted outcomes.Discarded = tt
+none_slotted outcomes.Fragmented = tt
+none_slotted (outcomes.Asked verdict) = tt
+
+-- one of a task that is no question is no answer
+pub no_answer_of : (task : Task) (o : Outcome) → IsOutcomeOf task o → is_question task ≡ false → IsNoAnswerOf o
+no_answer_of (tasks.Populate nav state address initial) (outcomes.Populated slot) its silent = tt
+no_answer_of (tasks.Activate entry epoch long at memo address) outcomes.Activated its silent = tt
+no_answer_of (tasks.Update long at) outcomes.Updated its silent = tt
+no_answer_of tasks.Discard outcomes.Discarded its silent = tt
+no_answer_of tasks.Freeze outcomes.Frozen its silent = tt
+no_answer_of (tasks.Ask slot cause) (outcomes.Asked verdict) its never = absurd cc
+no_answer_of (tasks.DoFragment req mode address) outcomes.Fragmented its silent = tt
+no_answer_of _ _ its silent = elim its [ ]
+
+module _ (e : InEvent) (t : Tables) (queue : Queue) (blame : List (StateId × ReqId)) {check : InCheck} (stands : StandsFor check (seen_start e) t queue blame) (lasts : LastsInLog e.checking e.start) (asks : ChecksStand e.checking e.start t.checks) (room : HasRoomFor e.start) (proc : ProcId) where
+  shown_once : AreShownOnce (seen_start e).places
+  shown_once = once_of lasts.shows
+
+  -- ---- an order is taken up, which is no question
+
+  module _ (job : Job) (dirty : Bool) (free : (desk_of e.start proc).in_hand ≡ None) (first : slice_get (desk_of e.start proc).mail 0 ≡ Some job) (silent : is_question job.task ≡ false) where
+    abbrev seen_free : (desk_of (seen_start e) proc).in_hand ≡ None
+    seen_free = free_read e.checking e.start proc free
+
+    abbrev seen_first : slice_get (desk_of (seen_start e) proc).mail 0 ≡ Some job
+    seen_first = mail_read e.checking e.start proc job first silent
+
+    taken_lasts : LastsInLog e.checking (next e.start e.event (actors.Proc proc) (rows.Taken proc job.nr true dirty))
+    taken_lasts =
         record {
-          checks = row_checks e.checking s (record { event = e.event; actor = actors.Proc proc; row = rows.Finished proc order.job.nr outcome }) tt tt lasts.checks;
-          shows = finished_under s e.event (actors.Proc proc) proc order.job.nr outcome lasts.shows;
-          duly = finished_duly s e.event (actors.Proc proc) lasts.duly proc order outcome hand unmade;
+          checks = row_checks e.checking e.start (record { event = e.event; actor = actors.Proc proc; row = rows.Taken proc job.nr true dirty }) tt tt lasts.checks;
+          shows = taken_under e.start e.event (actors.Proc proc) proc job.nr true dirty lasts.shows;
+          duly = row_duly e.start e.event (actors.Proc proc) lasts.duly (rows.Taken proc job.nr true dirty) tt;
+          known = known_on e.start (record { event = e.event; actor = actors.Proc proc; row = rows.Taken proc job.nr true dirty }) tt tt tt tt lasts.known;
         }
 
-    pub finished_stands : StandsFor check (next e.start e.event (actors.Proc proc) (rows.Finished proc order.job.nr outcome)) t queue blame
-    finished_stands =
-        left_stands s t queue blame stands room did (but_of t.running s did did_left) did_told (finished_between t.kept.keep t.running s e.event proc stands.between order outcome hand its bare other)
-        (finished_lasting s e.event (actors.Proc proc) stands.lasts.lasting stands.between.tab.desks proc order outcome)
-        (λ F. orders_after F s e.event (actors.Proc proc) (rows.Finished proc order.job.nr outcome) tt (λ x is. cc))
-        (theirs_same s did requests_same homes stands.lasts.made)
-        (were_shown s e.event (actors.Proc proc) stands.lasts.were (rows.Finished proc order.job.nr outcome) tt)
-        (once_of finished_lasts.shows)
+    -- nobody has died
+    lives : (job.incarnation == length (desk_of e.start proc).killed) ≡ true
+    lives =
+        ap (λ (desk : Desk). job.incarnation == length desk.killed) (sym (desk_read e.checking e.start proc))
+        ∙ taken_lives t.running (seen_start e) e.event proc stands.between.tab stands.between.flows job dirty seen_free seen_first
 
-    -- ---- it passes, where no page has a handler
+    pub taken_acts : (uncut : e.before ≡ []) (by : e.actor ≡ actors.Proc proc) (event : e.event ≡ e.start.events) (is_dirty : dirty ≡ holds (λ (d : Document). holds (λ (view : View). view.dirty) d.view) (document_of e.start job.doc)) (own : e.own ≡ rows.Taken proc job.nr true dirty) → HasActed check e [] t queue blame
+    taken_acts uncut by event is_dirty own =
+        alone_acts e (actors.Proc proc) (rows.Taken proc job.nr true dirty) by own uncut (rows.Taken proc job.nr true dirty)
+        (taken_seen e.checking e.start e.event (actors.Proc proc) proc job.nr true dirty job first silent)
+        t queue blame
+        (taken_stands (seen_start e) e.event t queue blame stands (seen_room e room) shown_once proc job dirty seen_free seen_first)
+        taken_lasts (taken_beside e.start e.event (actors.Proc proc) proc job.nr true dirty) asks
+        (subst (λ (b : Bool). Passes e.header (record { start = e.start; now = e.start; done = []; later = [] }) (record { event = e.event; actor = actors.Proc proc; row = rows.Taken proc job.nr true b })) (sym is_dirty)
+        (taken_passes e.header e.start e.event proc job free first lives))
 
-    abbrev its_row : LogRow
-    its_row = record { event = s.events; actor = actors.Proc proc; row = rows.Finished proc order.job.nr outcome }
+  -- ---- an order is finished, which is no question and no fragment order
+
+  module _ (order : Order) (outcome : Outcome) (hand : (desk_of e.start proc).in_hand ≡ Some order) (its : IsOutcomeOf order.job.task outcome) (silent : is_question order.job.task ≡ false) (other : IsNoFragment order.job.task) where
+    abbrev seen_hand : (desk_of (seen_start e) proc).in_hand ≡ Some order
+    seen_hand = hand_read e.checking e.start proc order hand silent
+
+    -- where it makes a document, this isn't made yet
+    unmade_log : (slot : Option ℕ) → outcome ≡ outcomes.Populated slot → is_made e.start.documents order.job.doc ≡ false
+    unmade_log slot is =
+        sym (tested_read e.checking e.start (λ (d : Document). d.is_ready) (λ d. refl) order.job.doc)
+        ∙ unmade (seen_start e) e.event t queue blame stands (seen_room e room) shown_once proc order (without_slot outcome) seen_hand (with_bare order.job.task outcome its) (none_slotted outcome) other None (ap (λ (o : Outcome). without_slot o) is)
 
     -- what a task asks of the row
-    record IsFinishedDuly (header : Header) (task : Task) (o : Outcome) : Type 0 where
+    record IsFinishedDuly (task : Task) (o : Outcome) : Type 0 where
       outcome_of : is_outcome_of task o ≡ true
-      followed : is_followed_duly s order.job task [] ≡ true
-      slotted : is_slotted header task o ≡ true
+      followed : is_followed_duly e.start order.job task [] ≡ true
 
-    duly : (header : Header) → HasNoPages header → (task : Task) (o : Outcome) → IsOutcomeOf task o → HasNoSlot o → IsSoundTask s order.job.doc task → IsNoFragment task → IsFinishedDuly header task o
-    duly header pages (tasks.Update long at) outcomes.Updated out none free plain = record { outcome_of = refl; followed = refl; slotted = refl }
-    duly header pages tasks.Discard outcomes.Discarded out none free plain = record { outcome_of = refl; followed = refl; slotted = refl }
-    duly header pages tasks.Freeze outcomes.Frozen out none free plain = record { outcome_of = refl; followed = refl; slotted = refl }
-    duly header pages (tasks.Activate entry epoch long at memo address) outcomes.Activated out none free plain = record { outcome_of = refl; followed = refl; slotted = refl }
-    duly header pages (tasks.Populate nav state address initial) (outcomes.Populated slot) out none free plain = record { outcome_of = refl; followed = refl; slotted = rw none (rw pages refl) }
-    duly header pages (tasks.Ask slot cause) o out none never plain = absurd never
-    duly header pages (tasks.DoFragment req mode address) o out none free never = absurd never
-    duly header pages _ _ out none free plain = elim out [ ]
+    duly : (task : Task) (o : Outcome) → IsOutcomeOf task o → is_question task ≡ false → IsNoFragment task → IsFinishedDuly task o
+    duly (tasks.Update long at) outcomes.Updated out quiet plain = record { outcome_of = refl; followed = refl }
+    duly tasks.Discard outcomes.Discarded out quiet plain = record { outcome_of = refl; followed = refl }
+    duly tasks.Freeze outcomes.Frozen out quiet plain = record { outcome_of = refl; followed = refl }
+    duly (tasks.Activate entry epoch long at memo address) outcomes.Activated out quiet plain = record { outcome_of = refl; followed = refl }
+    duly (tasks.Populate nav state address initial) (outcomes.Populated slot) out quiet plain = record { outcome_of = refl; followed = refl }
+    duly (tasks.Ask slot cause) o out never plain = absurd cc
+    duly (tasks.DoFragment req mode address) o out quiet never = absurd never
+    duly _ _ out quiet plain = elim out [ ]
 
-    finished_passes : HasNoPages e.header → Passes e.header (record { start = e.start; now = e.start; done = []; later = [] }) its_row
-    finished_passes pages =
-        let done_ : IsFinishedDuly e.header order.job.task outcome = duly e.header pages order.job.task outcome its bare asks_none other in
+    -- it passes, where a document that was made has the handler of its page
+    finished_passes : is_slotted e.header order.job.task outcome ≡ true → Passes e.header (record { start = e.start; now = e.start; done = []; later = [] }) (record { event = e.event; actor = actors.Proc proc; row = rows.Finished proc order.job.nr outcome })
+    finished_passes slotted =
+        let done_ : IsFinishedDuly order.job.task outcome = duly order.job.task outcome its silent other in
         record {
           formed = rw (nat_eq_refl proc.0, hand) (rw (nat_eq_refl order.job.nr.0, done_.outcome_of, done_.followed) refl);
           once = refl;
@@ -263,9 +325,22 @@ module _ (e : InEvent) (t : Tables) (queue : Queue) (blame : List (StateId × Re
           ordered = refl;
           checked = refl;
           in_time = refl;
-          suits = rw hand done_.slotted;
+          suits = rw hand slotted;
         }
 
-    pub finished_acts : HasNoPages e.header → e.before ≡ [] → e.actor ≡ actors.Proc proc → e.event ≡ e.start.events → e.own ≡ rows.Finished proc order.job.nr outcome → HasIdled check e [] t queue blame
-    finished_acts pages uncut by event own =
-        alone_acts e (actors.Proc proc) (rows.Finished proc order.job.nr outcome) by own uncut event t queue blame finished_stands finished_lasts (finished_passes pages)
+    finished_lasts : is_slotted e.header order.job.task outcome ≡ true → LastsInLog e.checking (next e.start e.event (actors.Proc proc) (rows.Finished proc order.job.nr outcome))
+    finished_lasts slotted =
+        record {
+          checks = row_checks e.checking e.start (record { event = e.event; actor = actors.Proc proc; row = rows.Finished proc order.job.nr outcome }) tt tt lasts.checks;
+          shows = finished_under e.start e.event (actors.Proc proc) proc order.job.nr outcome lasts.shows;
+          duly = finished_duly e.start e.event (actors.Proc proc) lasts.duly proc order outcome hand unmade_log;
+          known = known_passed e.header (record { start = e.start; now = e.start; done = []; later = [] }) (record { event = e.event; actor = actors.Proc proc; row = rows.Finished proc order.job.nr outcome }) (finished_passes slotted) tt lasts.known;
+        }
+
+    pub finished_acts : is_slotted e.header order.job.task outcome ≡ true → e.before ≡ [] → e.actor ≡ actors.Proc proc → e.own ≡ rows.Finished proc order.job.nr outcome → HasActed check e [] t queue blame
+    finished_acts slotted uncut by own =
+        alone_acts e (actors.Proc proc) (rows.Finished proc order.job.nr outcome) by own uncut (rows.Finished proc order.job.nr (without_slot outcome))
+        (finished_seen e.checking e.start e.event (actors.Proc proc) proc order.job.nr outcome order hand silent)
+        t queue blame
+        (finished_stands (seen_start e) e.event t queue blame stands (seen_room e room) shown_once proc order (without_slot outcome) seen_hand (with_bare order.job.task outcome its) (none_slotted outcome) other)
+        (finished_lasts slotted) (finished_beside e.start e.event (actors.Proc proc) proc order.job.nr outcome (no_answer_of order.job.task outcome its silent)) asks (finished_passes slotted)

@@ -1,31 +1,43 @@
--- The report of an order that neither made nor showed a document is taken: where no document is left to be discarded, the coordinator that stood for the log stands for it still, and the event is over.
-use Rattle.tab_doors.specs.Working.{IsAhead}
-use Rattle.tab_doors.specs.PassedOn.{noted_by}
-use Rattle.tab_doors.proofs.PassedOn.{plain_nobody, pass_end}
+-- The report of an order that neither made nor showed a document is taken: where no document is left to be discarded, the coordinator has acted, which does nothing itself, whoever is in a check.
+use Rattle.asking_facts.proofs.Passed.{known_on}
 use Rattle.tab_stands.proofs.Logged.{once_of}
 use Rattle.tab_stands.specs.Offs.{AreShownOnce}
-use Rattle.tab_stands.proofs.Ended.{paid_log}
 use Rattle.log_model.specs.Equal.{holds}
 use Rattle.log_model.specs.History.{has_state}
 use Rattle.log_model.specs.Orders.{ongoing_load}
 use Rattle.log_model.specs.Places.{is_ongoing_load}
-use Rattle.log_model.specs.Seen.{Asked, Document, Seen, desk_of}
+use Rattle.log_model.specs.After.{after}
+use Rattle.log_model.specs.Queue.{is_delivered_duly}
+use Rattle.log_model.specs.Seen.{Asked, Document, Place, Seen, desk_of}
+use Rattle.log_model.specs.declared.job.Task.{Task}
+use Rattle.log_model.specs.declared.job.Task.TheVariants as tasks
+use Rattle.log_model.specs.declared.made.Made.{Made}
+use Rattle.log_model.specs.declared.made.Report.{Report}
 use Rattle.log_model.specs.declared.job.Job.{Job}
 use Rattle.log_model.specs.declared.made.Report.TheVariants as reports
 use Rattle.log_model.specs.declared.outcome.Outcome.{Outcome}
+use Rattle.log_model.specs.declared.outcome.Outcome.TheVariants as outcomes
+use Rattle.log_model.specs.declared.row_kind.LogRow.{LogRow}
 use Rattle.log_model.specs.declared.row_kind.Actor.TheVariants as actors
 use Rattle.log_model.specs.declared.row_kind.RowKind.TheVariants as rows
 use Rattle.move_queue.specs.Queue.{Queue}
+use Rattle.check_facts.specs.Rows.{IsNoAnswerOf}
+use Rattle.checking_facts.specs.Checks.{IsPlainReport}
 use Rattle.row_facts.proofs.Left.Rows.{were_shown}
-use Rattle.row_facts.proofs.Owed.Ends.{loose_owed, owed_paid}
+use Rattle.seen_facts.proofs.Coord.Unread.{next}
+use Rattle.seen_facts.specs.Transit.Orders.{IsOutcomeOf}
 use Rattle.row_facts.proofs.RestRows.Rows.{delivered_rests}
 use Rattle.seen_facts.proofs.Request.Readers.{SameReads}
-use Rattle.seen_laws.proofs.InEvents.{now_is}
-use Rattle.seen_laws.specs.InEvent.{InEvent, later_of, log_of}
-use Rattle.std.proofs.Common.{Bool, List, None, Option, Some, [], ap, arith, false, inl, inr, length, map, refl, subst, sym, true, ◌&&◌, ◌==◌, ◌∙◌, ◌≡◌, ◌≤◌, ◌⊎◌}
+use Rattle.seen_laws.proofs.Deliveries.{delivered_may}
+use Rattle.seen_laws.specs.Blocks.{Passes, point_at}
+use Rattle.seen_laws.specs.InEvent.{InEvent, start_of}
+use Rattle.seen_laws.specs.Unasked.{is_question, no_answer, unasked, without_slot}
+use Rattle.std.proofs.Common.{Bool, List, None, Option, Some, [], ap, arith, cond, false, inl, inr, length, map, refl, subst, sym, true, ◌&&◌, ◌==◌, ◌∙◌, ◌≡◌, ◌≤◌, ◌⊎◌}
 use Rattle.std.proofs.lemmas.List.{map-id}
 use Rattle.std.specs.Map.{lookup}
 use Rattle.std.specs.Prelude.{find, slice_get}
+use Rattle.tab_acts.proofs.Checks.{IsBeside, still_unsettled, told_beside}
+use Rattle.tab_acts.proofs.Events.{alone_acts, now_then, own_row, seen_room}
 use Rattle.tab_acts.proofs.Left.{StaysTold, changes_kept, left_stands}
 use Rattle.tab_acts.proofs.Orders.{theirs_same}
 use Rattle.tab_doors.specs.Look.{sight}
@@ -35,7 +47,7 @@ use Rattle.tab_facts.proofs.Order.Rows.{orders_after}
 use Rattle.tab_facts.proofs.TabEvents.Left.{IsLeftBut, between_but, keeps_all}
 use Rattle.tab_facts.proofs.TabEvents.Requests.{lean, same_left}
 use Rattle.tab_facts.proofs.TabWhole.Delivering.{done_flows, fine}
-use Rattle.tab_facts.specs.Last.Lasting.{AreLasting}
+use Rattle.tab_facts.proofs.Last.Rows.{delivered_lasting}
 use Rattle.tab_facts.specs.TabEvents.Between.{AreSwept, IsBetweenChecks}
 use Rattle.tab_facts.specs.TabGoing.Going.{count_of, has_ended, has_spent}
 use Rattle.seen_facts.specs.Coord.Leading.{held_back}
@@ -45,14 +57,54 @@ use Rattle.tab_ids.specs.declared.ProcId.{ProcId}
 use Rattle.tab_ids.specs.declared.ReqId.{ReqId}
 use Rattle.tab_ids.specs.declared.StateId.{StateId}
 use Rattle.tab_stands.proofs.Coming.{bare}
-use Rattle.tab_stands.proofs.Dones.{did, did_joined, did_now, did_parked, did_requests, did_tab, did_takes, documents_same, places_same, quiet_asks, quiet_begun}
-use Rattle.tab_stands.proofs.PassedOn.{of_load, unstood_by}
+use Rattle.tab_stands.proofs.Dones.{did, did_joined, did_outcome, did_parked, did_requests, did_tab, did_takes, documents_same, places_same, quiet_asks}
+use Rattle.tab_stands.proofs.EpochRows.{delivered_under}
+use Rattle.tab_stands.proofs.PassedOn.{of_load, row_checks, row_duly, unstood_by}
 use Rattle.tab_stands.proofs.Reports.{told_kept}
 use Rattle.tab_stands.specs.Delivering.{IsSeenDelivery, IsQuietTask}
 use Rattle.tab_stands.specs.PassedOn.{IsStray}
-use Rattle.tab_stands.specs.Standing.{HasActed, HasBegun, HasLogged, HasRoomFor, InCheck, IsOwnRead, StandsFor, seen_start}
+use Rattle.tab_stands.specs.Checked.{ChecksStand}
+use Rattle.tab_stands.specs.Standing.{HasActed, HasRoomFor, InCheck, IsOwnRead, LastsInLog, StandsFor, seen_start}
+use Rattle.unasked.proofs.Deliveries.{delivered_seen}
 
-module _ (e : InEvent) (proc : ProcId) (job : Job) (outcome : Outcome) (del : IsSeenDelivery e proc (reports.Done job outcome None)) (t : Tables) (queue : Queue) (blame : List (StateId × ReqId)) {check : InCheck} (stands : StandsFor check (seen_start e) t queue blame) (aside : IsOwnRead e) (quiet : IsQuietTask job.task) (logged : HasLogged e t.checks) (room : HasRoomFor (seen_start e)) (header : t.kept.keep ≡ e.header.keep) (clear : blame ≡ []) where
+-- a report that is as this one but for a handler tells no answer where this one tells none
+told_plain : (real : Report) (job : Job) (outcome : Outcome) (made : Option Made) → no_answer real ≡ Some (reports.Done job outcome made) → IsNoAnswerOf outcome → IsPlainReport (Some real)
+told_plain (reports.Made m) job outcome made is answers = tt
+told_plain (reports.Died death) job outcome made never answers = absurd cc
+told_plain (reports.Done j o m) job outcome made is answers = by_test (is_question j.task) is
+  where
+    unslotted : (k : Outcome) → IsNoAnswerOf (without_slot k) → IsNoAnswerOf k
+    unslotted (outcomes.Populated slot) its = tt
+    unslotted outcomes.Activated its = tt
+    unslotted outcomes.Updated its = tt
+    unslotted outcomes.Frozen its = tt
+    unslotted outcomes.Discarded its = tt
+    unslotted outcomes.Fragmented its = tt
+    unslotted (outcomes.Asked verdict) never = absurd never
+
+    by_test : (b : Bool) → (let r : Option Report = cond b None (Some (reports.Done j (without_slot o) m)) in r) ≡ Some (reports.Done job outcome made) → IsNoAnswerOf o
+    by_test true never = absurd cc
+    by_test false told_is =
+        let same : outcome ≡ without_slot o = cc in
+        unslotted o (subst (λ (k : Outcome). IsNoAnswerOf k) same answers)
+
+alive_plain : (report : Option Report) → IsPlainReport report → NoDeath report
+alive_plain None plain = tt
+alive_plain (Some (reports.Made made)) plain = tt
+alive_plain (Some (reports.Died death)) never = absurd never
+alive_plain (Some (reports.Done job outcome made)) plain = tt
+
+module _ (e : InEvent) (proc : ProcId) (job : Job) (outcome : Outcome) (del : IsSeenDelivery e proc (reports.Done job outcome None)) (t : Tables) (queue : Queue) (blame : List (StateId × ReqId)) {check : InCheck} (stands : StandsFor check (seen_start e) t queue blame) (lasts : LastsInLog e.checking e.start) (asks : ChecksStand e.checking e.start t.checks) (room : HasRoomFor e.start) (uncut : e.before ≡ []) (quiet : IsQuietTask job.task) (clear : blame ≡ []) where
+  -- the own row is read off where nobody is asked
+  read : unasked e.checking (next e.start e.event actors.Coord (rows.Delivered proc)) ≡ next (seen_start e) e.event actors.Coord (rows.Delivered proc)
+  read =
+      delivered_seen e.checking e.start e.event actors.Coord proc del.real (reports.Done job outcome None) del.real_first del.quiet del.unheld
+
+  aside : IsOwnRead e
+  aside =
+      now_then e actors.Coord (rows.Delivered proc) del.by_coord del.own uncut (rows.Delivered proc) read
+      ∙ ap (λ (r : LogRow). after (seen_start e) r) (sym (own_row e actors.Coord (rows.Delivered proc) del.by_coord del.own))
+
   abbrev s : Seen
   s = seen_start e
 
@@ -68,8 +120,8 @@ module _ (e : InEvent) (proc : ProcId) (job : Job) (outcome : Outcome) (del : Is
   asked : n.requests ≡ s.requests
   asked = did_requests e proc job outcome del t queue blame stands aside (quiet_asks e proc job outcome del t queue blame stands aside quiet)
 
-  begun : HasBegun (record { event = e; loads = check.loads; hand = [] }) t queue blame
-  begun = quiet_begun e proc job outcome del t queue blame stands aside quiet logged room header
+  alive : NoDeath (slice_get (desk_of s proc).reports 0)
+  alive = fine t.running s e.event proc stands.between.tab stands.between.flows (reports.Done job outcome None) del.first
 
   -- what it leaves
   left : IsLeftBut t.running s n
@@ -129,26 +181,51 @@ module _ (e : InEvent) (proc : ProcId) (job : Job) (outcome : Outcome) (del : Is
       (done_flows t.running s e.event proc stands.between.tab stands.between.flows job outcome del.first)
       (delivered_rests s e.event actors.Coord [] stands.between.rests proc alive)
       (inl swept)
-    where
-      alive : NoDeath (slice_get (desk_of s proc).reports 0)
-      alive = fine t.running s e.event proc stands.between.tab stands.between.flows (reports.Done job outcome None) del.first
 
-  pub told_stands : StandsFor check n t queue blame
+  told_stands : StandsFor check n t queue blame
   told_stands =
-      left_stands s t queue blame stands room n left told between
-      (subst (λ (x : Seen). AreLasting x) (did_now e proc job outcome del t queue blame stands aside) begun.passing.going.lasting)
+      left_stands s t queue blame stands (seen_room e room) n left told between
+      (delivered_lasting s e.event actors.Coord stands.lasts.lasting proc alive)
       (λ F are. orders_after F s e.event actors.Coord (rows.Delivered proc) tt (λ x is. cc) are)
       (theirs_same s n asked (λ doc d found. (d, ap (λ (l : List Document). find (λ (x : Document). x.nr.0 == doc.0) l) docs ∙ found, refl)) stands.lasts.made)
       (were_shown s e.event actors.Coord stands.lasts.were (rows.Delivered proc) tt)
-      (subst (λ (x : Seen). AreShownOnce x.places) (sym (now_is e []) ∙ did_now e proc job outcome del t queue blame stands aside) (once_of logged.lasts.shows))
+      (subst (λ (l : List Place). AreShownOnce l) (sym places) (once_of lasts.shows))
+
+  -- ---- of the log itself
+
+  -- the report tells no answer and no death
+  plain : IsPlainReport (slice_get (desk_of e.start proc).reports 0)
+  plain =
+      subst (λ (o : Option Report). IsPlainReport o) (sym del.real_first) (told_plain del.real job outcome None del.quiet (by_task job.task outcome quiet (did_outcome e proc job outcome del t queue blame stands aside)))
+    where
+      by_task : (task : Task) (o : Outcome) → IsQuietTask task → IsOutcomeOf task o → IsNoAnswerOf o
+      by_task (tasks.Update long at) outcomes.Updated is its = tt
+      by_task tasks.Freeze outcomes.Frozen is its = tt
+      by_task tasks.Discard outcomes.Discarded is its = tt
+      by_task (tasks.DoFragment req mode address) outcomes.Fragmented is its = tt
+      by_task (tasks.Populate nav state address initial) o never its = absurd never
+      by_task (tasks.Activate entry epoch long at memo address) o never its = absurd never
+      by_task (tasks.Ask slot cause) o never its = absurd never
+      by_task _ _ is its = elim its [ ]
+
+  beside : IsBeside e.start (record { event = e.event; actor = actors.Coord; row = rows.Delivered proc })
+  beside = told_beside e.start e.event actors.Coord proc plain
+
+  told_lasts : LastsInLog e.checking (next e.start e.event actors.Coord (rows.Delivered proc))
+  told_lasts =
+      record {
+        checks = row_checks e.checking e.start (record { event = e.event; actor = actors.Coord; row = rows.Delivered proc }) tt tt lasts.checks;
+        shows = delivered_under e.start e.event actors.Coord proc (alive_plain (slice_get (desk_of e.start proc).reports 0) plain) lasts.shows;
+        duly = row_duly e.start e.event actors.Coord lasts.duly (rows.Delivered proc) tt;
+        known = known_on e.start (record { event = e.event; actor = actors.Coord; row = rows.Delivered proc }) tt tt tt tt lasts.known;
+      }
+
+  passes : Passes e.header (record { start = e.start; now = e.start; done = []; later = [] }) (record { event = e.event; actor = actors.Coord; row = rows.Delivered proc })
+  passes =
+      (delivered_may (start_of e) e.event proc del.real refl del.real_first (still_unsettled e.start (next e.start e.event actors.Coord (rows.Delivered proc)) beside.gone beside.reads asks.has.numbered) []
+      (subst (λ (r : LogRow). is_delivered_duly (point_at (start_of e) []) r ≡ true) (own_row e actors.Coord (rows.Delivered proc) del.by_coord del.own) (did_takes e proc job outcome del t queue blame stands aside []))).0
 
   -- so the event is over
   pub told_acts : HasActed check e [] t queue blame
   told_acts =
-      record {
-        stands = subst (λ (x : Seen). StandsFor check x t queue blame) (sym (did_now e proc job outcome del t queue blame stands aside)) told_stands;
-        lasts = logged.lasts;
-        passes =
-            pass_end (IsAhead None) e (noted_by t.checks []) [] logged.lawful tt (paid_log e [] begun.passing.work (owed_paid e [] (loose_owed e [] begun.loose))) (did_takes e proc job outcome del t queue blame stands aside (later_of e [])) (λ never. absurd cc)
-            (plain_nobody e.checking (log_of e []) (sym (logged.plain ∙ now_is e [])));
-      }
+      alone_acts e actors.Coord (rows.Delivered proc) del.by_coord del.own uncut (rows.Delivered proc) read t queue blame told_stands told_lasts beside asks passes

@@ -129,7 +129,7 @@ module _ (p : InPass) (out : List RowKind) (t : Tables) (passing : IsPassing p o
     applied_duly =
         duly_then e out (rows.Applied load.req change) more out_is
         (bare_alone_duly e.checking (log_of e out) e.event e.actor passing.duly load.req change (no_frame load.replace refl) (subst (λ (x : Seen). fits x.history change ≡ true) (now_is e out) (fit p out t passing nav load at idle may over over_is))
-        (alone_log e.checking (log_of e out) passing.work.unheld passing.work.checks.numbered load.req None (subst (λ (x : Seen). OnlyRuns None x) (now_is e out) goes.tab.asked.only) (λ r never. absurd cc)))
+        (alone_log e.checking (log_of e out) (passing.work.unheld may.free) passing.work.checks.numbered load.req None (subst (λ (x : Seen). OnlyRuns None x) (now_is e out) goes.tab.asked.only) (λ r never. absurd cc)))
 
     pub apply_passing : IsPassing p more u
     apply_passing =

@@ -13,7 +13,7 @@ use Rattle.nav_tree.specs.declared.nav.Nav.{Nav}
 use Rattle.navigate_core.specs.Navigations.{change_for}
 use Rattle.seen_laws.specs.InEvent.{InEvent, now_of}
 use Rattle.std.specs.Prelude.{List, Option, Some, [], false, option_and_then, true, ◌++◌, ◌∷◌, ◌≡◌}
-use Rattle.tab_doors.specs.Working.{KeepsRun}
+use Rattle.tab_doors.specs.Working.{KeepsRun, MayDiscardIn}
 use Rattle.tab_doors.specs.declared.tables.Tables.{Tables}
 use Rattle.tab_ids.specs.declared.DocId.{DocId}
 use Rattle.tab_ids.specs.declared.EntryId.{EntryId}
@@ -40,6 +40,7 @@ pub record MayApply (e : InEvent) (s : Seen) (nav : NavId) (load : Load) : Type 
   pub placed : is_placed s (aim_of s) nav ≡ true
   pub stand : all_stand s s.history.current ≡ true
   pub unheld : has_req (held_at_first e) load.req ≡ false
+  pub free : MayDiscardIn false e
 
 -- the load was applied, in the place of the given entry where it replaces; who is awake was so before, what is kept and what is held back is as it was, and orders may be sent for whom they might before
 pub record HasApplied (e : InEvent) (nav : NavId) (load : Load) (old new : List RowKind) (t u : Tables) : Type 0 where

@@ -33,7 +33,7 @@ use Rattle.tab_one_pass.specs.Noting.{AreNoted, EntriesAreNoted}
 use Rattle.tab_facts.specs.Frame.Lasting.{wish}
 use Rattle.seen_facts.proofs.Request.Readers.{reads_then}
 use Rattle.log_model.specs.Equal.{has_req}
-pub use Rattle.tab_applies.proofs.PassedOn.{turning_on}
+pub use Rattle.tab_applies.proofs.PassedOn.{turning_on, waiting_on}
 use Rattle.tab_applies.specs.PassedOn.{IsTurning}
 use Rattle.log_model.specs.declared.job.Why.TheVariants as whys
 

@@ -12,16 +12,16 @@ use Rattle.std.proofs.Common.{List, None, Some, [], ap, false, inl, inr, length,
 use Rattle.std.specs.Prelude.{nat_lt}
 use Rattle.tab_ids.specs.declared.ReqId.{ReqId}
 use Rattle.tab_one_pass.specs.Passing.{LeavesPass}
-use Rattle.tab_applies.specs.PassedOn.{IsTurning}
+use Rattle.tab_applies.specs.PassedOn.{IsWaiting}
 
-pub turning_passed : (e : InEvent) (out more : List RowKind) → LeavesPass (now_of e out) (now_of e more) → IsTurning e out → IsTurning e more
-turning_passed e out more left turning =
+pub waiting_passed : (e : InEvent) (out more : List RowKind) → LeavesPass (now_of e out) (now_of e more) → IsWaiting e out → IsWaiting e more
+waiting_passed e out more left waits =
     record {
-      parked = by_held turning.parked;
-      apart = λ req q among at. (let w = was req q at in ap is_traversal (sym w.2) ∙ turning.apart req w.0 among w.1);
+      parked = by_held waits.parked;
+      apart = λ req q among at. (let w = was req q at in ap is_traversal (sym w.2) ∙ waits.apart req w.0 among w.1);
       early = λ req q joined at. (let w = was req q at in
           subst (λ (x : Request). denial_at_acceptance e.start x ≡ None ⊎ (nat_lt (length e.start.requests) req.0 ≡ false)) w.2
-          (turning.early req w.0 (ap (λ (l : List ReqId). has_req l req) (sym left.joined) ∙ joined) w.1));
+          (waits.early req w.0 (ap (λ (l : List ReqId). has_req l req) (sym left.joined) ∙ joined) w.1));
     }
   where
     was : (req : ReqId) (q : Asked) → request_of (now_of e more) req ≡ Some q → (p : Asked) × (request_in (now_of e out).requests req ≡ Some p) × (p.what ≡ q.what)

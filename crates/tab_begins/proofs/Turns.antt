@@ -236,6 +236,7 @@ module _ (p : InPass) (out : List RowKind) (t : Tables) (passing : IsPassing p o
                 placed = reached.each nav (ap (λ (b : Bool). b || has_nav reached.place.above nav) (nat_eq_refl nav.0));
                 stand = stand;
                 unheld = rests.passed.held its.load.req nav of_it;
+                free = turning.free;
               }
 
       pub load_asks : IsPassing p out t × (IsTurning p.event out × ((ongoing_load nav t.loads ≡ Some chosen) × ((chosen.req ≡ req) × ((t.running ≡ None) × MayTake p.event blame nav chosen s))))

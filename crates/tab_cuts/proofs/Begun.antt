@@ -1,5 +1,5 @@
 -- A request begins and asks, and the event is cut behind that: its coordinator goes on working, and what the rows so far owed is what is due.
-use Rattle.asking_facts.proofs.Begun.{block_log, then_other, then_own}
+use Rattle.asking_facts.proofs.Begun.{block_log}
 use Rattle.asking_facts.proofs.Sent.{when_asked}
 use Rattle.asking_facts.proofs.Standing.{begun_stands}
 use Rattle.asking_facts.specs.Asking.{AreQuestions, AreQuestionsFrom, AreSome, BeginsToAsk, MayBeginTo, begun_asking, checks_begun, questions_sent}
@@ -12,25 +12,24 @@ use Rattle.checking_facts.specs.Prompts.{told_by}
 use Rattle.checking_facts.specs.States.{IsNextState}
 use Rattle.log_model.specs.After.{after, states_after}
 use Rattle.log_model.specs.Orders.{Question}
-use Rattle.log_model.specs.Places.{is_reload, is_traversal, is_under_way}
-use Rattle.log_model.specs.Queue.{is_step_under_way}
-use Rattle.log_model.specs.Seen.{Asked, Seen, request_of}
+use Rattle.log_model.specs.Places.{is_traversal}
+use Rattle.log_model.specs.Seen.{Asked, Seen}
 use Rattle.log_model.specs.declared.job.Job.{Job}
 use Rattle.log_model.specs.declared.row_kind.LogRow.{LogRow}
 use Rattle.log_model.specs.declared.row_kind.RowKind.TheVariants as rows
 use Rattle.log_model.specs.declared.row_kind.RowKind.{RowKind}
 use Rattle.row_facts.specs.Owed.Owed.{IsLoose, IsOwed, Lasts, Stays, owes_seen}
 use Rattle.seen_laws.specs.InEvent.{InEvent, begins, cut, here_of, log_of, now_of, row_of}
-use Rattle.std.proofs.Common.{Bool, List, None, Option, Some, [], ap, append_assoc, arith, false, length, map, refl, subst, sym, true, ℕ, ◌&&◌, ◌+◌, ◌++◌, ◌==◌, ◌||◌, ◌∙◌, ◌∷◌, ◌≡◌, ◌≤◌}
+use Rattle.std.proofs.Common.{Bool, List, None, Option, Some, [], ap, append_assoc, arith, false, length, map, refl, subst, sym, true, ℕ, ◌+◌, ◌++◌, ◌==◌, ◌∙◌, ◌∷◌, ◌≡◌, ◌≤◌}
 use Rattle.std.specs.List.{list_any}
 use Rattle.tab_cuts.proofs.Counted.{counted, lasts_before, stays_before, ties_counted}
 use Rattle.tab_cuts.proofs.Debts.{EachOwesSole, debts_entered}
 use Rattle.tab_cuts.proofs.Owed.{loose_cut, owed_cut}
 use Rattle.tab_cuts.proofs.Silent.{begun_silent}
 use Rattle.tab_cuts.proofs.Twice.{AreAmong}
-use Rattle.tab_cuts.proofs.Works.{ties_beside, work_behind}
+use Rattle.tab_cuts.proofs.Works.{calm_beside, ties_beside, work_behind}
 use Rattle.tab_cuts.specs.Cut.{TiesCut}
-use Rattle.tab_doors.proofs.Works.{BeginsSole, soles_more, steps_calm}
+use Rattle.tab_doors.proofs.Works.{BeginsSole, soles_more}
 use Rattle.tab_doors.specs.Keeping.{Move}
 use Rattle.tab_doors.specs.Working.{IsAhead, IsAtWorkFor, next_shown}
 use Rattle.tab_doors.specs.declared.tables.Tables.{Tables}
@@ -38,7 +37,7 @@ use Rattle.tab_ids.specs.declared.ReqId.{ReqId}
 use Rattle.tab_ids.specs.declared.Step.{Step}
 use Rattle.unasked.proofs.Whole.{silent}
 use Rattle.unasked.specs.Premises.{AreFresh, all_sited}
-use Rattle.unasked_dues.specs.Checking.{NoStepChecks, unasked}
+use Rattle.unasked_dues.specs.Checking.{unasked}
 use Rattle.unasked_dues.specs.Reading.{AreDebts, BeginSole}
 
 -- ---- what its rows are
@@ -107,7 +106,7 @@ stands_work move but e out t work notes =
       pass = work.lawful;
       asked = work.asked;
       checks = work.checks;
-      none = none_waits e.checking (log_of e out) (steps_calm e.checking (log_of e out) work.unheld) but;
+      none = none_waits e.checking (log_of e out) work.calm but;
       notes = notes;
     }
 
@@ -147,31 +146,6 @@ module _ (move : Option Move) (e : InEvent) (out : List RowKind) (t : Tables) (w
   loose_begun loose =
       loose_cut e (out ++ block) entered (owes_seen e out) (λ end lasts. loose end (lasts_before (now_of e out) e.event behind.jobs behind.states end (subst (λ (s : Seen). Lasts s end) silent_then lasts)))
 
-  -- no step is in its check, where it is none
-  pub unheld_begun : (is_traversal q.what || is_reload q.what) ≡ false → NoStepChecks entered behind
-  unheld_begun none =
-      subst (λ (s : Seen). NoStepChecks entered s) (sym (block_log e out req goal jobs)) unheld
-    where
-      now : Seen
-      now = log_of e out
-
-      idle : (b : Bool) → (b && (is_traversal q.what || is_reload q.what)) ≡ false
-      idle true = none
-      idle false = refl
-
-      unheld : NoStepChecks entered (when_asked e (after now (row_of e (rows.Started req goal))) jobs)
-      unheld r x at checks = by_number (r.0 == req.0) refl
-        where
-          by_number : (b : Bool) → (r.0 == req.0) ≡ b → is_step_under_way x ≡ false
-          by_number true is =
-              let own = then_own e now req goal questions jobs q begins_ are in
-              let there : request_of (when_asked e (after now (row_of e (rows.Started req goal))) jobs) req ≡ Some x = ap (λ (n : ReqId). request_of (when_asked e (after now (row_of e (rows.Started req goal))) jobs) n) (sym (req_same r req is)) ∙ at in
-              let both = sym own ∙ there in
-              let what : q.what ≡ x.what = cc in
-              ap (λ (w : _). is_under_way x && (is_traversal w || is_reload w)) (sym what) ∙ idle (is_under_way x)
-          by_number false apart =
-              work.unheld r x (sym (then_other e now req goal questions jobs q begins_ are r apart) ∙ at) (sym (same r apart) ∙ checks)
-
   -- the tables tie to it, which were as they are but for what they count
   pub ties_begun : (u : Tables) → u ≡ counted (now_of e out) e.event behind.jobs behind.states move t u → length u.sent.items ≡ behind.jobs + 1 → u.states ≡ behind.states → TiesCut move (unasked entered behind) u
   unfolding now_of
@@ -184,9 +158,9 @@ module _ (move : Option Move) (e : InEvent) (out : List RowKind) (t : Tables) (w
 
   -- it is at work
   module _ (u : Tables) (is : u ≡ counted (now_of e out) e.event behind.jobs behind.states move t u) (sent : length u.sent.items ≡ behind.jobs + 1) (states : u.states ≡ behind.states) (checks : u.checks ≡ checks_begun (told_by t.checks out) req questions) where
-    pub work_begun : (notes : NotesWanted (log_of e out) (told_by t.checks out).checks) → AreSome questions → MayEnter q → list_any (begins req) (e.before ++ out) ≡ false → MayBeginTo (here_of e out) (row_of e (rows.Started req goal)) req goal q → IsNextState (log_of e out) (record { 0 = (log_of e out).states + 1 }) → (is_traversal q.what || is_reload q.what) ≡ false → BeginsSole e out (rows.Started req goal) → IsAtWorkFor move then_begun [] u
-    work_begun notes some may unbegun begin next none begins_sole =
-        work_behind move e (out ++ block) entered (owes_seen e out) u nobody work.own work.worker work.numbered sole debts_begun stands (ties_begun u is sent states) (unheld_begun none)
+    pub work_begun : (notes : NotesWanted (log_of e out) (told_by t.checks out).checks) → AreSome questions → MayEnter q → list_any (begins req) (e.before ++ out) ≡ false → MayBeginTo (here_of e out) (row_of e (rows.Started req goal)) req goal q → IsNextState (log_of e out) (record { 0 = (log_of e out).states + 1 }) → (is_traversal q.what ≡ true → NoOtherUnderWay (log_of e out) req) → BeginsSole e out (rows.Started req goal) → IsAtWorkFor move then_begun [] u
+    work_begun notes some may unbegun begin next goes_not begins_sole =
+        work_behind move e (out ++ block) entered (owes_seen e out) u nobody work.own work.worker work.numbered sole debts_begun stands (ties_begun u is sent states) (calm_beside (IsAhead move) then_begun [] (record { checks = u.checks; run = [] }) stands)
       where
         nobody : ReqId → Bool
         nobody r = false
@@ -206,14 +180,7 @@ module _ (move : Option Move) (e : InEvent) (out : List RowKind) (t : Tables) (w
             by_move None there = tt
             by_move (Some m) there = asked_ahead e (log_of e out) req ((log_of e out).jobs + 1) questions jobs later are ∙ there
 
-        goes_not : is_traversal q.what ≡ true → NoOtherUnderWay (log_of e out) req
-        goes_not goes = absurd (never (is_traversal q.what) (is_reload q.what) goes none)
-          where
-            never : (a b : Bool) → a ≡ true → (a || b) ≡ false → ⊥
-            never true b goes_ none_ = cc
-            never false b goes_ none_ = cc
-
         stands : StandsAsked (IsAhead move) nobody then_begun [] (record { checks = u.checks; run = [] })
         stands =
             subst (λ (c : _). StandsAsked (IsAhead move) nobody then_begun [] (record { checks = c; run = [] })) (sym checks)
-            (begun_stands e out (told_by t.checks out) (IsAhead move) nobody (stands_work move nobody e out t work notes) (steps_calm e.checking (log_of e out) work.unheld) req goal questions jobs q begins_ are some may work.own unbegun off (IsAhead move) entered (owes_seen e out) same on ahead begin next goes_not)
+            (begun_stands e out (told_by t.checks out) (IsAhead move) nobody (stands_work move nobody e out t work notes) work.calm req goal questions jobs q begins_ are some may work.own unbegun off (IsAhead move) entered (owes_seen e out) same on ahead begin next goes_not)

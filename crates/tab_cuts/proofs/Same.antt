@@ -1,12 +1,11 @@
 -- The event is cut where nobody enters or leaves its check: as its table of checks is told, and as the user was asked.
 use Rattle.asking_facts.specs.Standing.{StandsAsked}
-use Rattle.checking_facts.proofs.Rows.{row_steps}
 use Rattle.log_model.specs.Seen.{Seen}
 use Rattle.log_model.specs.declared.row_kind.RowKind.TheVariants as rows
 use Rattle.log_model.specs.declared.row_kind.RowKind.{RowKind}
 use Rattle.row_facts.specs.Owed.Owed.{IsLoose, IsOwed, Lasts, Stays, owes_seen}
 use Rattle.seen_laws.proofs.InEvents.{log_more}
-use Rattle.seen_laws.specs.InEvent.{InEvent, cut, log_of, now_of, row_of}
+use Rattle.seen_laws.specs.InEvent.{InEvent, cut, log_of, now_of}
 use Rattle.std.proofs.Common.{Bool, List, Option, [], arith, length, subst, sym, true, ◌+◌, ◌++◌, ◌∷◌, ◌≡◌}
 use Rattle.tab_cuts.proofs.Counted.{lasts_before, stays_before, ties_counted}
 use Rattle.tab_cuts.proofs.Debts.{debts_entered}
@@ -16,17 +15,17 @@ use Rattle.tab_cuts.proofs.Works.{ties_beside, work_behind, work_cut}
 use Rattle.tab_cuts.specs.Cut.{TiesCut}
 use Rattle.tab_doors.proofs.Works.{soles_more}
 use Rattle.tab_doors.specs.Keeping.{Move}
-use Rattle.tab_doors.specs.Working.{IsAhead, IsAtWorkFor}
+use Rattle.tab_doors.specs.Working.{IsAhead, IsAtWorkIn, IsCalmIn}
 use Rattle.tab_doors.specs.declared.tables.Tables.{Tables}
 use Rattle.tab_ids.specs.declared.DocId.{DocId}
 use Rattle.tab_ids.specs.declared.ReqId.{ReqId}
 use Rattle.unasked.proofs.Questions.{prompted_unseen}
 use Rattle.unasked.proofs.Whole.{silent}
 use Rattle.unasked_dues.proofs.Cut.{debts_same}
-use Rattle.unasked_dues.specs.Checking.{NoStepChecks, unasked}
+use Rattle.unasked_dues.specs.Checking.{unasked}
 use Rattle.unasked_dues.specs.Reading.{AreDebts}
 
-module _ (move : Option Move) (e : InEvent) (out : List RowKind) (t : Tables) (work : IsAtWorkFor move e out t) where
+module _ {sweeps : Bool} (move : Option Move) (e : InEvent) (out : List RowKind) (t : Tables) (work : IsAtWorkIn sweeps move e out t) where
   -- ---- the table of checks is another
 
   abbrev pub then_told : InEvent
@@ -57,9 +56,9 @@ module _ (move : Option Move) (e : InEvent) (out : List RowKind) (t : Tables) (w
         kept = ties.kept;
       })
 
-  pub work_told : (but : ReqId → Bool) (u : Tables) → u ≡ record t { checks = u.checks } → StandsAsked (IsAhead move) but then_told [] (record { checks = u.checks; run = [] }) → IsAtWorkFor move then_told [] u
-  work_told but u is stands =
-      work_cut move e out e.checking (owes_seen e out) u but t work (debts_same e out work.numbered work.read work.debts) stands (ties_told u is) work.unheld
+  pub work_told : (but : ReqId → Bool) (u : Tables) → u ≡ record t { checks = u.checks } → StandsAsked (IsAhead move) but then_told [] (record { checks = u.checks; run = [] }) → {then_sweeps : Bool} → IsCalmIn then_sweeps e.checking (log_of then_told []) → IsAtWorkIn then_sweeps move then_told [] u
+  work_told but u is stands calm =
+      work_cut move e out e.checking (owes_seen e out) u but t work (debts_same e out work.numbered work.read work.debts) stands (ties_told u is) calm
 
   -- ---- the user was asked
 
@@ -106,7 +105,6 @@ module _ (move : Option Move) (e : InEvent) (out : List RowKind) (t : Tables) (w
         states : u.states ≡ (log_of e out).states
         states = subst (λ (x : Tables). x.states ≡ (log_of e out).states) (sym is) work.holds.states
 
-    pub work_prompted : (but : ReqId → Bool) (u : Tables) → u ≡ record t { checks = u.checks } → e.checking req ≡ true → StandsAsked (IsAhead move) but then_prompted [] (record { checks = u.checks; run = [] }) → IsAtWorkFor move then_prompted [] u
-    work_prompted but u is on stands =
-        work_behind move e (out ++ kind ∷ []) e.checking (owes_seen e out) u but work.own work.worker work.numbered (soles_more e out kind tt work.sole) debts_prompted stands (ties_prompted u is)
-        (subst (λ (s : Seen). NoStepChecks e.checking s) (sym (log_more e out kind)) (row_steps e.checking (log_of e out) (row_of e kind) tt on work.unheld))
+    pub work_prompted : (but : ReqId → Bool) (u : Tables) → u ≡ record t { checks = u.checks } → e.checking req ≡ true → StandsAsked (IsAhead move) but then_prompted [] (record { checks = u.checks; run = [] }) → {then_sweeps : Bool} → IsCalmIn then_sweeps e.checking (log_of then_prompted []) → IsAtWorkIn then_sweeps move then_prompted [] u
+    work_prompted but u is on stands calm =
+        work_behind move e (out ++ kind ∷ []) e.checking (owes_seen e out) u but work.own work.worker work.numbered (soles_more e out kind tt work.sole) debts_prompted stands (ties_prompted u is) calm

@@ -5,16 +5,18 @@ use Rattle.seen_laws.proofs.Cuts.{log_cut}
 use Rattle.seen_laws.proofs.InEvents.{none_goes}
 use Rattle.seen_laws.specs.InEvent.{InEvent, cut, log_of, now_of}
 use Rattle.seen_laws.specs.Sending.{leads}
-use Rattle.std.proofs.Common.{Bool, List, Option, [], subst, sym, true, ◌≡◌}
+use Rattle.checking_facts.specs.Prompts.{Told}
+use Rattle.log_model.specs.declared.row_kind.LogRow.{LogRow}
+use Rattle.std.proofs.Common.{Bool, List, Option, [], false, refl, subst, sym, true, ◌≡◌}
 use Rattle.tab_cuts.specs.Cut.{TiesCut}
 use Rattle.tab_doors.specs.Keeping.{Move}
-use Rattle.tab_doors.specs.Working.{IsAhead, IsAtWorkFor, IsWorker}
+use Rattle.tab_doors.specs.Working.{IsAhead, IsAtWorkIn, IsCalmIn, IsWorker}
 use Rattle.tab_doors.specs.declared.tables.Tables.{Tables}
 use Rattle.tab_ids.specs.declared.ReqId.{ReqId}
 use Rattle.log_model.specs.declared.row_kind.RowKind.{RowKind}
 use Rattle.unasked_dues.proofs.Cut.{sole_cut}
 use Rattle.unasked_dues.proofs.Read.{read_own}
-use Rattle.unasked_dues.specs.Checking.{AreNumbered, NoStepChecks, unasked}
+use Rattle.unasked_dues.specs.Checking.{AreNumbered, NonePasses, unasked}
 use Rattle.unasked_dues.specs.Reading.{AreDebts, BeginSole}
 
 -- what the tables know of the event was shown before it is cut
@@ -24,7 +26,7 @@ ties_now move e out checking due u ties =
     subst (λ (s : Seen). TiesCut move (unasked checking s) u) (sym (log_cut e out checking due)) ties
 
 -- the same tables tie, whatever they have of the checks
-pub ties_beside : (move : Option Move) (e : InEvent) (out : List RowKind) (t : Tables) → IsAtWorkFor move e out t → TiesCut move (now_of e out) t
+pub ties_beside : {sweeps : Bool} (move : Option Move) (e : InEvent) (out : List RowKind) (t : Tables) → IsAtWorkIn sweeps move e out t → TiesCut move (now_of e out) t
 ties_beside move e out t work =
     record {
       holds = work.holds;
@@ -36,13 +38,17 @@ ties_beside move e out t work =
       kept = work.kept;
     }
 
+-- where no traversal in its check has passed but nobody
+pub calm_beside : (Rest : List LogRow → Type 0) (e : InEvent) (out : List RowKind) (told : Told) → StandsAsked Rest (λ (req : ReqId). false) e out told → NonePasses e.checking (log_of e out)
+calm_beside Rest e out told stands req q at on traverses checks = stands.none req q at on traverses checks refl
+
 -- the event is cut behind rows that needn't be seen by the checks so far
 module _ (move : Option Move) (e : InEvent) (out : List RowKind) (checking : ReqId → Bool) (due : Seen → Bool) (u : Tables) (but : ReqId → Bool) where
   abbrev then_ : InEvent
   then_ = cut e out checking due
 
-  pub work_behind : leads e.own ≡ true → IsWorker e.actor → AreNumbered e.start → BeginSole e out (log_of e out) → AreDebts then_ → StandsAsked (IsAhead move) but then_ [] (record { checks = u.checks; run = [] }) → TiesCut move (unasked checking (log_of e out)) u → NoStepChecks checking (log_of e out) → IsAtWorkFor move then_ [] u
-  work_behind own worker numbered sole debts stands ties unheld =
+  pub work_behind : leads e.own ≡ true → IsWorker e.actor → AreNumbered e.start → BeginSole e out (log_of e out) → AreDebts then_ → StandsAsked (IsAhead move) but then_ [] (record { checks = u.checks; run = [] }) → TiesCut move (unasked checking (log_of e out)) u → {sweeps : Bool} → IsCalmIn sweeps checking (log_of then_ []) → IsAtWorkIn sweeps move then_ [] u
+  work_behind own worker numbered sole debts stands ties calm =
       record {
         own = own;
         worker = worker;
@@ -52,7 +58,8 @@ module _ (move : Option Move) (e : InEvent) (out : List RowKind) (checking : Req
         sole = subst (λ (end : Seen). BeginSole then_ [] end) (sym (log_cut e out checking due)) (sole_cut e out checking due (log_of e out) sole);
         debts = debts;
         checks = stands.checks;
-        unheld = subst (λ (s : Seen). NoStepChecks checking s) (sym (log_cut e out checking due)) unheld;
+        calm = calm;
+        unheld = λ free. free;
         holds = tied.holds;
         runs = tied.runs;
         goal = tied.goal;
@@ -68,5 +75,5 @@ module _ (move : Option Move) (e : InEvent) (out : List RowKind) (checking : Req
       tied = ties_now move e out checking due u ties
 
   -- or behind those that its coordinator has put out so far
-  pub work_cut : {was : Option Move} (t : Tables) → IsAtWorkFor was e out t → AreDebts then_ → StandsAsked (IsAhead move) but then_ [] (record { checks = u.checks; run = [] }) → TiesCut move (unasked checking (log_of e out)) u → NoStepChecks checking (log_of e out) → IsAtWorkFor move then_ [] u
+  pub work_cut : {sweeps : Bool} {was : Option Move} (t : Tables) → IsAtWorkIn sweeps was e out t → AreDebts then_ → StandsAsked (IsAhead move) but then_ [] (record { checks = u.checks; run = [] }) → TiesCut move (unasked checking (log_of e out)) u → {then_sweeps : Bool} → IsCalmIn then_sweeps checking (log_of then_ []) → IsAtWorkIn then_sweeps move then_ [] u
   work_cut t work = work_behind work.own work.worker work.numbered work.sole

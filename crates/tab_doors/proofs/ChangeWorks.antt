@@ -137,6 +137,7 @@ module _ (e : InEvent) (out : List RowKind) (t u : Tables) (req : ReqId) (change
       (off, open_undropped (log_of e out) req in_log.asked in_log.due.at in_log.due.open_)
       (take_step plain)
       checks
+      (inl refl)
     where
       few_kept : (documents next_ : List Document) (jobs : ℕ) → length next_ ≡ length documents → length documents ≤ jobs + 1 → length next_ ≤ jobs + 1
       few_kept documents next_ jobs same few = omega (arith, same, few)
@@ -316,6 +317,7 @@ module _ (e : InEvent) (out : List RowKind) (t u : Tables) (req : ReqId) (goal_ 
       (off, open_undropped (log_of e out) req end_log.asked end_log.due.at end_log.due.open_)
       end_step
       one.checks
+      (inl refl)
     where
       few_kept : (documents next_ : List Document) (jobs : ℕ) → length next_ ≡ length documents → length documents ≤ jobs + 1 → length next_ ≤ jobs + 1
       few_kept documents next_ jobs same few = omega (arith, same, few)

@@ -23,7 +23,7 @@ use Rattle.seen_laws.specs.Sending.{IsNumbered}
 use Rattle.seen_laws.specs.Unasked.{unasked, unhandled}
 use Rattle.tab_doors.proofs.Works.{aimed_log}
 use Rattle.tab_doors.specs.Keeping.{Move}
-use Rattle.tab_doors.specs.Working.{IsAtWorkFor}
+use Rattle.tab_doors.specs.Working.{IsAtWorkFor, IsAtWorkIn}
 use Rattle.tab_doors.specs.declared.tables.Tables.{Tables}
 use Rattle.unasked_dues.proofs.Base.{document_from}
 use Rattle.unasked_dues.proofs.Leaves.{below_left, discard_left, freeze_left, gone_left, kept_left, kept_same, last_left, newly_left_same, too_many, unneeded_left}
@@ -113,7 +113,7 @@ module _ (e : InEvent) (out : List RowKind) (same : now_of e out ≡ unasked e.c
 
 -- ---- where the coordinator works
 
-module _ {move : Option Move} (e : InEvent) (out : List RowKind) (t : Tables) (work : IsAtWorkFor move e out t) where
+module _ {sweeps : Bool} {move : Option Move} (e : InEvent) (out : List RowKind) (t : Tables) (work : IsAtWorkIn sweeps move e out t) where
   -- its document state has no entry, and is no ongoing load's
   pub gone_log : (job : Job) (bare : Document) (its : IsLeftAs e out job bare) → has_state bare.state (now_of e out).history.rows ≡ false → ongoing_load (now_of e out) bare.state ≡ None → IsGoneLeft (here_of e out) job its.d
   gone_log job bare its gone unloaded =
@@ -122,6 +122,7 @@ module _ {move : Option Move} (e : InEvent) (out : List RowKind) (t : Tables) (w
       (subst (λ (x : StateId). has_state x (now_of e out).history.rows ≡ false) state_is gone)
       (subst (λ (x : StateId). ongoing_load (now_of e out) x ≡ None) state_is unloaded)
 
+module _ {move : Option Move} (e : InEvent) (out : List RowKind) (t : Tables) (work : IsAtWorkFor move e out t) where
   -- nothing needs it as it is made
   pub unneeded_log : (job : Job) (bare : Document) (its : IsLeftAs e out job bare) → IsUnneededDue (seen_at e out (now_is e out)) job bare → IsUnneededLeft (here_of e out) job its.d
   unneeded_log job bare its due =

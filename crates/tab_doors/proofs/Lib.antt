@@ -21,6 +21,7 @@ pub mod EndLaws
 pub mod Destroying
 pub mod Takers
 pub mod Ahead
+pub mod Calm
 pub mod Works
 pub mod ReadOff
 pub mod LogDues

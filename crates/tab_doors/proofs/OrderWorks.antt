@@ -40,7 +40,7 @@ use Rattle.seen_laws.proofs.InEvents.{led_here, order_quiet, now_is}
 use Rattle.seen_laws.proofs.Sendings.{update_may}
 use Rattle.seen_laws.specs.InEvent.{InEvent, here_of, log_of, now_of, row_of}
 use Rattle.seen_laws.specs.Sending.{IsUpdateDue, IsNumbered}
-use Rattle.std.proofs.Common.{Bool, List, None, Option, Some, [], ap, map, refl, subst, sym, ℕ, ◌++◌, ◌∙◌, ◌∷◌, ◌≡◌}
+use Rattle.std.proofs.Common.{Bool, List, None, Option, Some, [], ap, inl, map, refl, subst, sym, ℕ, ◌++◌, ◌∙◌, ◌∷◌, ◌≡◌}
 use Rattle.std.proofs.lemmas.List.{length-map}
 use Rattle.std.specs.Map.{lookup}
 use Rattle.tab_ids.specs.declared.DocId.{DocId}
@@ -94,6 +94,7 @@ module _ (e : InEvent) (out : List RowKind) (t u : Tables) (nav : NavId) (doc : 
       tt
       (update_step due)
       one.checks
+      (inl refl)
 
 -- ---- a document is to be made
 
@@ -134,3 +135,4 @@ module _ (e : InEvent) (out : List RowKind) (t u : Tables) (proc : ProcId) (doc 
       for_other
       (make_step due known)
       one.checks
+      (inl refl)

@@ -39,7 +39,7 @@ use Rattle.seen_facts.proofs.Request.Readers.{SameReads, on_read}
 use Rattle.seen_laws.proofs.InEvents.{led_here, order_quiet}
 use Rattle.seen_laws.proofs.Sendings.{show_may}
 use Rattle.seen_laws.specs.InEvent.{InEvent, here_of, log_of, now_of, row_of}
-use Rattle.std.proofs.Common.{Bool, List, None, Option, Some, [], ap, arith, false, refl, subst, sym, ℕ, ◌++◌, ◌+◌, ◌<◌, ◌==◌, ◌∙◌, ◌∷◌, ◌≡◌}
+use Rattle.std.proofs.Common.{Bool, List, None, Option, Some, [], ap, arith, false, inl, refl, subst, sym, ℕ, ◌++◌, ◌+◌, ◌<◌, ◌==◌, ◌∙◌, ◌∷◌, ◌≡◌}
 use Rattle.std.proofs.lemmas.Bool.Decides.{nat_tests}
 use Rattle.std.proofs.lemmas.List.{length-map}
 use Rattle.std.specs.Option.{IsSome, option_map_or}
@@ -138,6 +138,7 @@ module _ {move : Option Move} (e : InEvent) (out : List RowKind) (t u : Tables) 
         for_other
         (show_step (meant move state t.kept.keep leaves))
         one.checks
+        (inl refl)
       where
         fused : with_nav (λ (n : Nav). record n { moved = is_some t.running }) nav (with_nav (λ (n : Nav). record n { told = Some (long, at) }) nav (with_nav (activated entry doc why) nav t.tree)) ≡ with_nav (shown_nav entry doc why (long, at) (λ b. is_some t.running)) d.nav t.tree
         fused =

@@ -5,6 +5,7 @@ use Rattle.seen_laws.proofs.InEvents.{now_is}
 use Rattle.unasked.proofs.Nows.{sent_goes}
 use Rattle.unasked_dues.specs.Checking.{IsForOther}
 use Rattle.checking_facts.proofs.Cases.{other_wakes}
+use Rattle.checking_facts.proofs.Rows.{row_steps}
 use Rattle.nav_tree.specs.Tree.{discarded}  -- keep
 use Rattle.tab_doors.proofs.Discarding.{discard_holds}
 use Rattle.tab_doors.proofs.Freezing.{freeze_holds}
@@ -12,13 +13,13 @@ use Rattle.tab_doors.proofs.Initial.{initial_same}
 use Rattle.tab_doors.proofs.Keeping.{gone_tied}
 use Rattle.tab_doors.proofs.ShowWorks.{served_same}
 use Rattle.tab_doors.proofs.Telling.{SendsOne}
-use Rattle.tab_doors.proofs.Works.{few_sent, goal_on, goal_read, kept_gone, kept_on, loads_sent, runs_on, work_more}
+use Rattle.tab_doors.proofs.Works.{few_sent, goal_on, goal_read, kept_gone, kept_on, loads_sent, runs_on, steps_calm, work_more}
 use Rattle.tab_doors.specs.Keeping.{LetsGo, Move}
 use Rattle.tab_doors.specs.Look.{look_of, sight}
 use Rattle.tab_doors.specs.Orders.{IsToGo, order_to, proc_at}
 use Rattle.tab_doors.specs.Sleeping.{is_for, sleep_all}
 use Rattle.tab_doors.specs.Ties.{Holds}
-use Rattle.tab_doors.specs.Working.{IsAtWorkFor, MaySend}
+use Rattle.tab_doors.specs.Working.{IsAtWorkFor, IsAtWorkIn, IsCalmIn, MayDiscardIn, MaySend}
 use Rattle.tab_doors.specs.declared.tables.Tables.{Tables}
 use Rattle.row_facts.proofs.FrameRows.Discards.{discard_quiet}
 use Rattle.seen_facts.proofs.Hang.Members.{into_map}
@@ -41,7 +42,7 @@ use Rattle.seen_facts.specs.Each.Runs.{is_run}
 use Rattle.page_cache.specs.Kept.{without}
 use Rattle.seen_laws.proofs.InEvents.{IsQuiet}
 use Rattle.seen_laws.specs.InEvent.{InEvent, log_of, now_of, row_of}
-use Rattle.std.proofs.Common.{Bool, List, None, Option, [], ap, cond, false, refl, subst, sym, true, ◌++◌, ◌==◌, ◌∙◌, ◌∷◌, ◌≡◌, Some}
+use Rattle.std.proofs.Common.{Bool, List, None, Option, [], ap, cond, false, inl, inr, refl, subst, sym, true, ◌++◌, ◌==◌, ◌∙◌, ◌∷◌, ◌≡◌, Some}
 use Rattle.std.proofs.lemmas.List.{length-map}
 use Rattle.tab_ids.specs.declared.DocId.{DocId}
 use Rattle.tab_ids.specs.declared.NavId.{NavId}
@@ -80,10 +81,11 @@ module _ {move : Option Move} (e : InEvent) (out : List RowKind) (t u : Tables) 
       for_other
       (step_sent e out move freeze (freeze_quiet e freeze refl) refl may)
       one.checks
+      (inl refl)
 
 -- ---- a document is discarded
 
-module _ {move : Option Move} (e : InEvent) (out : List RowKind) (t u : Tables) (doc : DocId) (state : StateId) (why : Why) (navs : List NavId) (work : IsAtWorkFor move e out t) (for_other : IsForOther e.checking why) (its : IsToGo (now_of e out) t.tree t.loads navs doc state) where
+module _ {sweeps : Bool} {move : Option Move} (e : InEvent) (out : List RowKind) (t u : Tables) (doc : DocId) (state : StateId) (why : Why) (navs : List NavId) (work : IsAtWorkIn sweeps move e out t) (for_other : IsForOther e.checking why) (its : IsToGo (now_of e out) t.tree t.loads navs doc state) where
   abbrev pub discard : Job
   discard = order_to (now_of e out) doc why tasks.Discard
 
@@ -94,8 +96,15 @@ module _ {move : Option Move} (e : InEvent) (out : List RowKind) (t u : Tables) 
   unloaded x nav load has is at =
       ap (λ (y : StateId). y.0 == load.state.0) (its.its_state (sight x) (into_map sight (now_of e out).documents x has) is) ∙ its.unloaded nav load at
 
-  pub discard_work : MaySend move e out discard → u.tree ≡ sleep_all navs why (is_for t.running why) (discarded state t.tree) → SendsOne t u t.shown.entries t.last.entries → u.running ≡ t.running → u.goal ≡ t.goal → AreOfOwnStates (now_of e out).documents (now_of e out).kept doc state → LetsGo move t.kept.keep (kept_states (now_of e out)) state → u.kept ≡ record t.kept { states = without state t.kept.states } → IsAtWorkFor move e (out ++ rows.Sent discard ∷ []) u
-  discard_work may tree one running goal own lets kept =
+  -- no traversal in its check has passed by that, unless that was let go
+  calm_gone : (b : Bool) → MayDiscardIn b e → IsCalmIn b e.checking (after (log_of e out) (row_of e (rows.Sent discard)))
+  calm_gone true free = tt
+  calm_gone false free =
+      steps_calm e.checking (after (log_of e out) (row_of e (rows.Sent discard)))
+      (row_steps e.checking (log_of e out) (row_of e (rows.Sent discard)) tt (other_wakes e.checking (log_of e out) discard for_other) (work.unheld free))
+
+  pub discard_work : MayDiscardIn sweeps e → MaySend move e out discard → u.tree ≡ sleep_all navs why (is_for t.running why) (discarded state t.tree) → SendsOne t u t.shown.entries t.last.entries → u.running ≡ t.running → u.goal ≡ t.goal → AreOfOwnStates (now_of e out).documents (now_of e out).kept doc state → LetsGo move t.kept.keep (kept_states (now_of e out)) state → u.kept ≡ record t.kept { states = without state t.kept.states } → IsAtWorkIn sweeps move e (out ++ rows.Sent discard ∷ []) u
+  discard_work free may tree one running goal own lets kept =
       work_more e out (rows.Sent discard) move t u work (sent_goes e out discard refl) tt (other_wakes e.checking (log_of e out) discard for_other) tt
       (subst (λ (x : Option ReqId). Holds (look_of then_gone x) u) (sym running) (discard_holds (now_of e out) t.running e.event e.actor (proc_at (now_of e out) doc) doc why state navs t work.holds work.runs its.are its.its_state its.its u tree one))
       (runs_on (now_of e out).requests then_gone.requests t u (served_same is_run (now_of e out) discard tasks.Discard why (λ q. refl)) running work.runs)
@@ -107,3 +116,4 @@ module _ {move : Option Move} (e : InEvent) (out : List RowKind) (t u : Tables) 
       (let its_own = in_log e out (now_is e out) doc its.document its.found in (its_own.d, its_own.found))
       (step_sent e out move discard (discard_quiet e discard refl) refl may)
       one.checks
+      (inr (calm_gone sweeps free))

@@ -1,7 +1,8 @@
 -- A traversal begins, or a request is refused or dropped, and the coordinator goes on working.
 use Rattle.tab_doors.proofs.Ahead.{IsStep, step_more, step_plain}
 use Rattle.tab_doors.proofs.Works.{open_undropped, unchecked_off}
-use Rattle.checking_facts.specs.Prompts.{GoesBeside}
+use Rattle.checking_facts.specs.Prompts.{GoesBeside, discarded_by}
+use Rattle.unasked_dues.specs.Checking.{NoStepChecks}
 use Rattle.tab_ids.specs.declared.NavId.{NavId}
 use Rattle.log_model.specs.declared.action.Action.{Action}
 use Rattle.unasked.proofs.Nows.{dropped_goes, refused_goes, started_goes}
@@ -22,7 +23,7 @@ use Rattle.tab_doors.specs.Dues.{AsksNone, IsBeginDue, IsDenyDue, IsDenyDueIn, I
 use Rattle.tab_doors.specs.Keeping.{IsNoLoad}
 use Rattle.tab_doors.specs.Look.{look_of, moved_by, sight}
 use Rattle.tab_doors.specs.Ties.{AreInitial, Holds, IsRunning}
-use Rattle.tab_doors.specs.Working.{HasGoal, IsAtWork, look_now}
+use Rattle.tab_doors.specs.Working.{HasGoal, IsAtWork, IsAtWorkIn, look_now}
 use Rattle.tab_doors.specs.declared.tables.Tables.{Tables}
 use Rattle.row_facts.proofs.FrameRows.Takes.{denied_may, destroyed_may, moved_may}
 use Rattle.row_facts.proofs.FrameRows.Turns.{IsTraversalBy, begin_may, nowhere_may, traversal_by}
@@ -49,7 +50,7 @@ use Rattle.seen_facts.proofs.Request.Readers.{on_read}
 use Rattle.seen_laws.proofs.InEvents.{led_here, now_is}
 use Rattle.seen_laws.specs.Blocks.{point_at}
 use Rattle.seen_laws.specs.InEvent.{InEvent, here_of, log_of, now_of, row_of, GoesThere}
-use Rattle.std.proofs.Common.{◌||◌, List, None, Option, Some, [], ap, false, inl, inr, length, map, refl, subst, sym, true, ℕ, ℤ, ◌++◌, ◌+◌, ◌∙◌, ◌∷◌, ◌≡◌, ◌≤◌, ◌⊎◌}
+use Rattle.std.proofs.Common.{Bool, ◌||◌, List, None, Option, Some, [], ap, false, inl, inr, length, map, refl, subst, sym, true, ℕ, ℤ, ◌++◌, ◌+◌, ◌∙◌, ◌∷◌, ◌≡◌, ◌≤◌, ◌⊎◌}
 use Rattle.std.specs.Prelude.{nat_lt, option_map}
 use Rattle.tab_ids.specs.declared.ReqId.{ReqId}
 use Rattle.tab_ids.specs.declared.StateId.{StateId}
@@ -64,12 +65,12 @@ use Rattle.log_model.specs.declared.row_kind.RowKind.TheVariants as rows
 
 -- ---- a request ends of which the tables tell nothing
 
-module _ (e : InEvent) (out : List RowKind) (t : Tables) (req : ReqId) (kind : RowKind) (ending : Ending) (work : IsAtWork e out t) (apart : is_this t.running req ≡ false) where
+module _ (e : InEvent) (out : List RowKind) (t : Tables) (req : ReqId) (kind : RowKind) (ending : Ending) {sweeps : Bool} (work : IsAtWorkIn sweeps None e out t) (apart : is_this t.running req ≡ false) where
   abbrev then_ : Seen
   then_ = after (now_of e out) (row_of e kind)
 
-  pub ended_work : GoesThere e out kind → BeginsSole e out kind → GoesDuly e.checking (log_of e out) kind → LeavesStates e.checking (log_of e out) kind → then_.requests ≡ ended (now_of e out).requests req ending → then_.documents ≡ (now_of e out).documents → then_.places ≡ (now_of e out).places → then_.history ≡ (now_of e out).history → then_.jobs ≡ (now_of e out).jobs → then_.states ≡ (now_of e out).states → then_.entries ≡ (now_of e out).entries → then_.initial_states ≡ (now_of e out).initial_states → kept_states then_ ≡ kept_states (now_of e out) → HasEnded (now_of e out) then_ req → IsNoLoad (now_of e out) req → GoesBeside e.checking (log_of e out) kind → IsStep None None e out kind → IsAtWork e (out ++ kind ∷ []) t
-  ended_work it begins duly leaves requests_ documents places history jobs states entries initial kept ended_ no_load beside step =
+  pub ended_work : GoesThere e out kind → BeginsSole e out kind → GoesDuly e.checking (log_of e out) kind → LeavesStates e.checking (log_of e out) kind → then_.requests ≡ ended (now_of e out).requests req ending → then_.documents ≡ (now_of e out).documents → then_.places ≡ (now_of e out).places → then_.history ≡ (now_of e out).history → then_.jobs ≡ (now_of e out).jobs → then_.states ≡ (now_of e out).states → then_.entries ≡ (now_of e out).entries → then_.initial_states ≡ (now_of e out).initial_states → kept_states then_ ≡ kept_states (now_of e out) → HasEnded (now_of e out) then_ req → IsNoLoad (now_of e out) req → GoesBeside e.checking (log_of e out) kind → IsStep None None e out kind → discarded_by kind ≡ None → IsAtWorkIn sweeps None e (out ++ kind ∷ []) t
+  ended_work it begins duly leaves requests_ documents places history jobs states entries initial kept ended_ no_load beside step none =
       work_more e out kind None t t work it begins duly leaves
       (left_holds (look_now e out t.running) (look_of then_ t.running) t (ap (λ (l : List Document). map sight l) documents) places history moved jobs states entries work.holds)
       (subst (λ (l : List Asked). IsRunning l t.running) (sym requests_) (runs_ended_apart (now_of e out).requests t.running req ending apart work.runs))
@@ -81,20 +82,21 @@ module _ (e : InEvent) (out : List RowKind) (t : Tables) (req : ReqId) (kind : R
       beside
       step
       refl
+      (inl none)
     where
       moved : moved_by then_.requests t.running ≡ moved_by (now_of e out).requests t.running
       moved = ap (λ (l : List Asked). moved_by l t.running) requests_ ∙ moved_same (now_of e out).requests (ended (now_of e out).requests req ending) t.running (ended_moved (now_of e out) e.event e.actor req ending)
 
 -- ---- a traversal that leads nowhere
 
-module _ (e : InEvent) (out : List RowKind) (t : Tables) (req : ReqId) (work : IsAtWork e out t) (apart : is_this t.running req ≡ false) where
+module _ {sweeps : Bool} (e : InEvent) (out : List RowKind) (t : Tables) (req : ReqId) (work : IsAtWorkIn sweeps None e out t) (apart : is_this t.running req ≡ false) where
   worker_as : (actor : Actor) → working.IsWorker actor → IsWorker actor
   worker_as actors.Ui is = tt
   worker_as actors.Coord is = tt
   worker_as _ is = elim is [ ]
 
-  nowhere_step : IsNowhere e out req → IsStep None None e out (rows.Refused req denials.NoStep)
-  nowhere_step due = by_log (nowhere e out (now_is e out) work.checks.numbered work.unheld req due)
+  nowhere_step : NoStepChecks e.checking (log_of e []) → IsNowhere e out req → IsStep None None e out (rows.Refused req denials.NoStep)
+  nowhere_step free due = by_log (nowhere e out (now_is e out) work.checks.numbered (work.unheld free) req due)
     where
       by_log : IsNowhereIn (log_of e out) e out req → IsStep None None e out (rows.Refused req denials.NoStep)
       by_log d =
@@ -108,20 +110,20 @@ module _ (e : InEvent) (out : List RowKind) (t : Tables) (req : ReqId) (work : I
   goes_no_load what {delta} (inr poke) = let is : what ≡ requests.Poke poke.0 (actions.Go delta) = poke.1 in rw is refl
 
   -- as the log has it
-  in_log : IsNowhere e out req → IsNowhereIn (log_of e out) e out req
-  in_log due = nowhere e out (now_is e out) work.checks.numbered work.unheld req due
+  in_log : NoStepChecks e.checking (log_of e []) → IsNowhere e out req → IsNowhereIn (log_of e out) e out req
+  in_log free due = nowhere e out (now_is e out) work.checks.numbered (work.unheld free) req due
 
   goes_step : (what : Request) {delta : ℤ} → IsTraversalBy delta what → is_traversal what ≡ true
   goes_step what (inl is) = rw is refl
   goes_step what {delta} (inr poke) = let is : what ≡ requests.Poke poke.0 (actions.Go delta) = poke.1 in rw is refl
 
   -- it isn't in its check
-  nowhere_off : IsNowhere e out req → e.checking req ≡ false
-  nowhere_off due = turn_off e out (now_is e out) work.checks.begun work.unheld req due.asked due.at due.open_ (goes_step due.asked.what (traversal_by due.asked.what due.delta due.asks))
+  nowhere_off : NoStepChecks e.checking (log_of e []) → IsNowhere e out req → e.checking req ≡ false
+  nowhere_off free due = turn_off e out (now_is e out) work.checks.begun (work.unheld free) req due.asked due.at due.open_ (goes_step due.asked.what (traversal_by due.asked.what due.delta due.asks))
 
-  pub nowhere_work : IsNowhere e out req → IsAtWork e (out ++ rows.Refused req denials.NoStep ∷ []) t
-  nowhere_work due =
-      ended_work e out t req (rows.Refused req denials.NoStep) (endings.Refused denials.NoStep) work apart (refused_goes e out req denials.NoStep) tt tt tt refl refl refl refl refl refl refl refl refl (refused_ended (now_of e out) e.event e.actor req denials.NoStep) (no_load_at (now_of e out) req due.asked due.at (goes_no_load due.asked.what (traversal_by due.asked.what due.delta due.asks))) (nowhere_off due, open_undropped (log_of e out) req (in_log due).asked (in_log due).at (in_log due).open_) (nowhere_step due)
+  pub nowhere_work : NoStepChecks e.checking (log_of e []) → IsNowhere e out req → IsAtWorkIn sweeps None e (out ++ rows.Refused req denials.NoStep ∷ []) t
+  nowhere_work free due =
+      ended_work e out t req (rows.Refused req denials.NoStep) (endings.Refused denials.NoStep) work apart (refused_goes e out req denials.NoStep) tt tt tt refl refl refl refl refl refl refl refl refl (refused_ended (now_of e out) e.event e.actor req denials.NoStep) (no_load_at (now_of e out) req due.asked due.at (goes_no_load due.asked.what (traversal_by due.asked.what due.delta due.asks))) (nowhere_off free due, open_undropped (log_of e out) req (in_log free due).asked (in_log free due).at (in_log free due).open_) (nowhere_step free due) refl
 
   -- ---- what is refused as its report is taken
 
@@ -147,9 +149,9 @@ module _ (e : InEvent) (out : List RowKind) (t : Tables) (req : ReqId) (work : I
       by_action : (nav : NavId) (action : Action) → goes action ≡ false → (is_load (requests.Poke nav action) || is_traversal (requests.Poke nav action) || is_reload (requests.Poke nav action)) ≡ false
       by_action nav action none = rw none refl
 
-  pub deny_work : (reason : Denial) → IsDenyDue e out req reason → IsAtWork e (out ++ rows.Refused req reason ∷ []) t
+  pub deny_work : (reason : Denial) → IsDenyDue e out req reason → IsAtWorkIn sweeps None e (out ++ rows.Refused req reason ∷ []) t
   deny_work reason due =
-      ended_work e out t req (rows.Refused req reason) (endings.Refused reason) work apart (refused_goes e out req reason) tt tt tt refl refl refl refl refl refl refl refl refl (refused_ended (now_of e out) e.event e.actor req reason) (no_load_at (now_of e out) req due.asked due.poked.at (ap is_load due.poked.what)) (deny_off reason due, open_undropped (log_of e out) req (denied_log reason due).asked (denied_log reason due).poked.at (denied_log reason due).poked.open_) (deny_step reason due)
+      ended_work e out t req (rows.Refused req reason) (endings.Refused reason) work apart (refused_goes e out req reason) tt tt tt refl refl refl refl refl refl refl refl refl (refused_ended (now_of e out) e.event e.actor req reason) (no_load_at (now_of e out) req due.asked due.poked.at (ap is_load due.poked.what)) (deny_off reason due, open_undropped (log_of e out) req (denied_log reason due).asked (denied_log reason due).poked.at (denied_log reason due).poked.open_) (deny_step reason due) refl
 
   -- ---- what is dropped
 
@@ -160,9 +162,9 @@ module _ (e : InEvent) (out : List RowKind) (t : Tables) (req : ReqId) (work : I
       by_log d =
           step_plain e out (rows.Dropped req (drops.Destroyed by)) (λ r. refl) d.held (destroyed_may (here_of e out) e.event e.actor (led_here e out work.own) req by d.asked d.at d.open_ d.is d.free)
 
-  pub destroy_work : (by : ReqId) → IsDestroyDue e out req by → IsNoLoad (now_of e out) req → e.checking req ≡ false → IsAtWork e (out ++ rows.Dropped req (drops.Destroyed by) ∷ []) t
+  pub destroy_work : (by : ReqId) → IsDestroyDue e out req by → IsNoLoad (now_of e out) req → e.checking req ≡ false → IsAtWorkIn sweeps None e (out ++ rows.Dropped req (drops.Destroyed by) ∷ []) t
   destroy_work by due no_load off =
-      ended_work e out t req (rows.Dropped req (drops.Destroyed by)) (endings.Dropped (drops.Destroyed by)) work apart (dropped_goes e out req (drops.Destroyed by)) tt tt tt refl refl refl refl refl refl refl refl refl (dropped_ended (now_of e out) e.event e.actor req (drops.Destroyed by)) no_load off (destroy_step by due)
+      ended_work e out t req (rows.Dropped req (drops.Destroyed by)) (endings.Dropped (drops.Destroyed by)) work apart (dropped_goes e out req (drops.Destroyed by)) tt tt tt refl refl refl refl refl refl refl refl refl (dropped_ended (now_of e out) e.event e.actor req (drops.Destroyed by)) no_load off (destroy_step by due) refl
 
   pub drop_step : (by : ReqId) → IsDropDue e out req by → IsStep None None e out (rows.Dropped req (drops.By by))
   drop_step by due = by_log (drop_due e out (now_is e out) work.checks.numbered work.checks.others req by due)
@@ -171,13 +173,13 @@ module _ (e : InEvent) (out : List RowKind) (t : Tables) (req : ReqId) (work : I
       by_log d =
           step_plain e out (rows.Dropped req (drops.By by)) (λ r. refl) d.held (moved_may (here_of e out) e.event e.actor (led_here e out work.own) req by d.asked d.mover d.at d.open_ d.found d.moved d.free)
 
-  pub drop_work : (by : ReqId) → IsDropDue e out req by → IsNoLoad (now_of e out) req → e.checking req ≡ false → IsAtWork e (out ++ rows.Dropped req (drops.By by) ∷ []) t
+  pub drop_work : (by : ReqId) → IsDropDue e out req by → IsNoLoad (now_of e out) req → e.checking req ≡ false → IsAtWorkIn sweeps None e (out ++ rows.Dropped req (drops.By by) ∷ []) t
   drop_work by due no_load off =
-      ended_work e out t req (rows.Dropped req (drops.By by)) (endings.Dropped (drops.By by)) work apart (dropped_goes e out req (drops.By by)) tt tt tt refl refl refl refl refl refl refl refl refl (dropped_ended (now_of e out) e.event e.actor req (drops.By by)) no_load off (drop_step by due)
+      ended_work e out t req (rows.Dropped req (drops.By by)) (endings.Dropped (drops.By by)) work apart (dropped_goes e out req (drops.By by)) tt tt tt refl refl refl refl refl refl refl refl refl (dropped_ended (now_of e out) e.event e.actor req (drops.By by)) no_load off (drop_step by due) refl
 
 -- ---- a traversal begins
 
-module _ (e : InEvent) (out : List RowKind) (t : Tables) (req : ReqId) (goal : Step) (work : IsAtWork e out t) (none : t.running ≡ None) (due : IsBeginDue (now_of e out) req goal) (none_asked : AsksNone (log_of e out) req (Some goal)) where
+module _ (e : InEvent) (out : List RowKind) (t : Tables) (req : ReqId) (goal : Step) (work : IsAtWork e out t) (none : t.running ≡ None) (due : IsBeginDue (now_of e out) req goal) (none_asked : AsksNone (log_of e out) req (Some goal)) (free : NoStepChecks e.checking (log_of e [])) where
   abbrev begun_ : Seen
   begun_ = after (now_of e out) (row_of e (rows.Started req (Some goal)))
 
@@ -228,11 +230,11 @@ module _ (e : InEvent) (out : List RowKind) (t : Tables) (req : ReqId) (goal : S
 
   -- it isn't in its check
   off : e.checking req ≡ false
-  off = turn_off e out (now_is e out) work.checks.begun work.unheld req due.asked due.at due.open_ (is_step due.asked.what its)
+  off = turn_off e out (now_is e out) work.checks.begun (work.unheld free) req due.asked due.at due.open_ (is_step due.asked.what its)
 
   begin_step : IsStep None None e out (rows.Started req (Some goal))
   begin_step =
-      by_log (begin_due e.checking (log_of e out) work.checks.numbered work.unheld req goal off none_asked (at_seen e out t work (λ (s : Seen). IsBeginDue s req goal) due))
+      by_log (begin_due e.checking (log_of e out) work.checks.numbered (work.unheld free) req goal off none_asked (at_seen e out t work (λ (s : Seen). IsBeginDue s req goal) due))
     where
       by_log : IsBeginDue (log_of e out) req goal → IsStep None None e out (rows.Started req (Some goal))
       by_log d =
@@ -247,7 +249,7 @@ module _ (e : InEvent) (out : List RowKind) (t : Tables) (req : ReqId) (goal : S
 
   pub begin_work : IsAtWork e (out ++ rows.Started req (Some goal) ∷ []) u
   begin_work =
-      work_more e out (rows.Started req (Some goal)) None t u work (started_goes e out req (Some goal) (work.checks.numbered req) off) (traversal_sole e out req (Some goal) from.0 from.1 (ap is_load (sym what_same) ∙ no_load due.asked.what its)) (λ by q r at there other traverses on runs. rw off (off_runs e.checking (log_of e out) work.unheld by r there on runs)) (inl off)
+      work_more e out (rows.Started req (Some goal)) None t u work (started_goes e out req (Some goal) (work.checks.numbered req) off) (traversal_sole e out req (Some goal) from.0 from.1 (ap is_load (sym what_same) ∙ no_load due.asked.what its)) (λ by q r at there other traverses on runs. rw off (off_runs e.checking (log_of e out) (work.unheld free) by r there on runs)) (inl off)
       (on_tables (left_holds (look_now e out t.running) (look_of begun_ (Some req)) t refl refl refl moved refl states_same refl work.holds))
       runs
       goal_then
@@ -258,6 +260,7 @@ module _ (e : InEvent) (out : List RowKind) (t : Tables) (req : ReqId) (goal : S
       off
       begin_step
       refl
+      (inl refl)
     where
       on_tables : Holds (look_of begun_ (Some req)) t → Holds (look_of begun_ (Some req)) u
       on_tables holds =

@@ -26,7 +26,8 @@ use Rattle.tab_doors.specs.Look.{look_of}
 use Rattle.tab_doors.specs.Orders.{next_order, numbered_order, order_to, proc_at}
 use Rattle.tab_doors.specs.Ties.{AreInitial, Holds, IsRunning, proc_in}
 use Rattle.tab_doors.proofs.Ahead.{IsStep}
-use Rattle.tab_doors.specs.Working.{HasGoal, IsAhead, IsAtWork, IsAtWorkFor, StartsPlain}
+use Rattle.tab_doors.proofs.Calm.{row_calm}
+use Rattle.tab_doors.specs.Working.{HasGoal, IsAhead, IsAtWork, IsAtWorkFor, IsAtWorkIn, IsCalmIn, StartsPlain}
 use Rattle.std.proofs.lemmas.List.Sums.{fold-append}
 use Rattle.unasked_dues.specs.Checking.{AllOthersPass}
 use Rattle.log_model.specs.Checks.{is_checked}
@@ -34,7 +35,7 @@ use Rattle.log_model.specs.Equal.{holds}
 use Rattle.log_model.specs.Outcomes.{is_drop}
 use Rattle.log_model.specs.declared.outcome.Ending.{Ending}
 use Rattle.checking_facts.proofs.Steps.{more_duly, more_pass}
-use Rattle.checking_facts.specs.Prompts.{IsUndropped, AreAskedDuly, GoesBeside, PassIf, Told, noted_in, tell_row, told_by}
+use Rattle.checking_facts.specs.Prompts.{IsUndropped, AreAskedDuly, GoesBeside, PassIf, Told, discarded_by, noted_in, tell_row, told_by}
 use Rattle.unload_check.specs.Checks.{OpenCheck}
 use Rattle.tab_doors.specs.declared.tables.Tables.{Tables}
 use Rattle.row_facts.proofs.FrameRows.LawfulLaws.{keeps_held}
@@ -61,7 +62,7 @@ use Rattle.seen_laws.proofs.InEvents.{goes_more, log_more, now_is, now_more}
 use Rattle.seen_laws.specs.Blocks.{Here, on_row, on_rows}
 use Rattle.seen_laws.specs.InEvent.{EachGoes, GoesThere, InEvent, IsReadOff, first_of, here_of, is_seen, log_of, now_of, own_of, row_of, rows_of}
 use Rattle.seen_laws.specs.Sending.{IsNumbered, is_passed}
-use Rattle.std.proofs.Common.{Bool, List, None, Option, Some, [], ap, append-nil, append_assoc, arith, false, length, length-append, map, refl, subst, sym, true, ℕ, ◌++◌, ◌+◌, ◌∙◌, ◌∷◌, ◌≡◌, ◌≤◌, not, ◌&&◌}
+use Rattle.std.proofs.Common.{Bool, List, None, Option, Some, [], ap, append-nil, append_assoc, arith, false, inl, inr, length, length-append, map, refl, subst, sym, true, ℕ, ◌++◌, ◌+◌, ◌∙◌, ◌∷◌, ◌≡◌, ◌≤◌, not, ◌&&◌, ◌⊎◌}
 use Rattle.std.specs.Option.{IsSome}
 use Rattle.std.specs.Prelude.{filter_map, nat_lt}
 use Rattle.tab_ids.specs.declared.DocId.{DocId}
@@ -197,12 +198,12 @@ off_begins checking (rows.Killed proc death) seen = tt
 off_begins checking (rows.Evicted state) seen = tt
 
 -- the move that had begun, if one had, and the one that has begun once the row is put out
-module _ {from : Option Move} (e : InEvent) (out : List RowKind) (kind : RowKind) (move : Option Move) (t u : Tables) (work : IsAtWorkFor from e out t) where
+module _ {sweeps : Bool} {from : Option Move} (e : InEvent) (out : List RowKind) (kind : RowKind) (move : Option Move) (t u : Tables) (work : IsAtWorkIn sweeps from e out t) where
   abbrev pub then_ : Seen
   then_ = after (now_of e out) (row_of e kind)
 
-  pub work_more : GoesThere e out kind → BeginsSole e out kind → GoesDuly e.checking (log_of e out) kind → LeavesStates e.checking (log_of e out) kind → Holds (look_of then_ u.running) u → IsRunning then_.requests u.running → HasGoal then_.requests u.running u.goal → length then_.documents ≤ then_.jobs + 1 → AreInitial then_.initial_states u.initial.entries → TiesLoads then_ u.loads → u.kept.states ≡ kept_in move u.kept.keep (kept_states then_) → GoesBeside e.checking (log_of e out) kind → IsStep from move e out kind → u.checks ≡ t.checks → IsAtWorkFor move e (out ++ kind ∷ []) u
-  work_more it begins duly leaves holds runs goal few initial loads kept beside step same =
+  pub work_more : GoesThere e out kind → BeginsSole e out kind → GoesDuly e.checking (log_of e out) kind → LeavesStates e.checking (log_of e out) kind → Holds (look_of then_ u.running) u → IsRunning then_.requests u.running → HasGoal then_.requests u.running u.goal → length then_.documents ≤ then_.jobs + 1 → AreInitial then_.initial_states u.initial.entries → TiesLoads then_ u.loads → u.kept.states ≡ kept_in move u.kept.keep (kept_states then_) → GoesBeside e.checking (log_of e out) kind → IsStep from move e out kind → u.checks ≡ t.checks → (discarded_by kind ≡ None) ⊎ IsCalmIn sweeps e.checking (after (log_of e out) (row_of e kind)) → IsAtWorkIn sweeps move e (out ++ kind ∷ []) u
+  work_more it begins duly leaves holds runs goal few initial loads kept beside step same calm =
       record {
         own = work.own;
         worker = work.worker;
@@ -212,9 +213,10 @@ module _ {from : Option Move} (e : InEvent) (out : List RowKind) (kind : RowKind
         sole = soles_more e out kind begins work.sole;
         debts = work.debts;
         checks = checks_;
-        unheld =
+        calm = subst (λ (s : Seen). IsCalmIn sweeps e.checking s) (sym (log_more e out kind)) (by_kept calm);
+        unheld = λ free.
             subst (λ (s : Seen). NoStepChecks e.checking s) (sym (log_more e out kind))
-            (row_steps e.checking (log_of e out) (row_of e kind) (off_begins e.checking kind it.seen) duly work.unheld);
+            (row_steps e.checking (log_of e out) (row_of e kind) (off_begins e.checking kind it.seen) duly (work.unheld free));
         holds = subst (λ (s : Seen). Holds (look_of s u.running) u) (sym (now_more e out kind it.read)) holds;
         runs = subst (λ (s : Seen). IsRunning s.requests u.running) (sym (now_more e out kind it.read)) runs;
         goal = subst (λ (s : Seen). HasGoal s.requests u.running u.goal) (sym (now_more e out kind it.read)) goal;
@@ -238,6 +240,15 @@ module _ {from : Option Move} (e : InEvent) (out : List RowKind) (kind : RowKind
           subst (λ (s : Seen). AreInCheck e.checking s) (sym (log_more e out kind))
           (row_checks e.checking (log_of e out) (row_of e kind) duly leaves work.checks)
 
+      -- a row that discards nothing settles no question
+      calm_after : (b : Bool) → discarded_by kind ≡ None → IsCalmIn b e.checking (log_of e out) → IsCalmIn b e.checking (after (log_of e out) (row_of e kind))
+      calm_after false none was = row_calm e.checking (log_of e out) (row_of e kind) was beside none
+      calm_after true none was = tt
+
+      by_kept : (discarded_by kind ≡ None) ⊎ IsCalmIn sweeps e.checking (after (log_of e out) (row_of e kind)) → IsCalmIn sweeps e.checking (after (log_of e out) (row_of e kind))
+      by_kept (inl none) = calm_after sweeps none work.calm
+      by_kept (inr is) = is
+
       passes : AllOthersPass e.checking (after (log_of e out) (row_of e kind))
       passes = subst (λ (s : Seen). AllOthersPass e.checking s) (log_more e out kind) checks_.others
 
@@ -259,24 +270,24 @@ unchecked_off checking s checks req q at none = by_test (checking req) refl
         absurd cc
 
 -- the rows are these
-pub next_for : (move : Option Move) (e : InEvent) (new then_out : List RowKind) (u : Tables) → new ≡ then_out → IsAtWorkFor move e then_out u → IsAtWorkFor move e new u
-next_for move e new then_out u is work = subst (λ (o : List RowKind). IsAtWorkFor move e o u) (sym is) work
+pub next_for : {sweeps : Bool} (move : Option Move) (e : InEvent) (new then_out : List RowKind) (u : Tables) → new ≡ then_out → IsAtWorkIn sweeps move e then_out u → IsAtWorkIn sweeps move e new u
+next_for {sweeps} move e new then_out u is work = subst (λ (o : List RowKind). IsAtWorkIn sweeps move e o u) (sym is) work
 
-pub next_work : (e : InEvent) (new then_out : List RowKind) (u : Tables) → new ≡ then_out → IsAtWork e then_out u → IsAtWork e new u
+pub next_work : {sweeps : Bool} (e : InEvent) (new then_out : List RowKind) (u : Tables) → new ≡ then_out → IsAtWorkIn sweeps None e then_out u → IsAtWorkIn sweeps None e new u
 next_work e new then_out u is work = next_for None e new then_out u is work
 
 -- ---- where the event stands
 
 -- what is so of the log without questions is so of what is read off the log
-pub at_seen : {move : Option Move} (e : InEvent) (out : List RowKind) (t : Tables) → IsAtWorkFor move e out t → (P : Seen → Type 0) → P (now_of e out) → P (unasked e.checking (log_of e out))
+pub at_seen : {sweeps : Bool} {move : Option Move} (e : InEvent) (out : List RowKind) (t : Tables) → IsAtWorkIn sweeps move e out t → (P : Seen → Type 0) → P (now_of e out) → P (unasked e.checking (log_of e out))
 at_seen e out t work P is = subst P (now_is e out) is
 
 -- and the aim is read off, who is moved, and which length and index are due
 pub aimed_log : {move : Option Move} (e : InEvent) (out : List RowKind) (t : Tables) → IsAtWorkFor move e out t → IsAimed e.checking (log_of e out)
-aimed_log e out t work = are_aimed e.checking (log_of e out) work.checks (steps_calm e.checking (log_of e out) work.unheld)
+aimed_log e out t work = are_aimed e.checking (log_of e out) work.checks work.calm
 
 pub moving_log : {move : Option Move} (e : InEvent) (out : List RowKind) (t : Tables) → IsAtWorkFor move e out t → IsMoving e.checking (log_of e out)
-moving_log e out t work = are_moving e.checking (log_of e out) work.checks (steps_calm e.checking (log_of e out) work.unheld)
+moving_log e out t work = are_moving e.checking (log_of e out) work.checks work.calm
 
 -- what an order is for has passed, where it isn't in its check
 pub passed_log : {move : Option Move} (e : InEvent) (out : List RowKind) (t : Tables) → IsAtWorkFor move e out t → (task : Task) (why : Why) → IsForOther e.checking why → is_passed (now_of e out) task why ≡ true → is_passed (log_of e out) task why ≡ true
@@ -345,12 +356,12 @@ pub numbered : (s : Seen) (proc : ProcId) (doc : DocId) (why : Why) (task : Task
 numbered s proc doc why task known = record { number = refl; incarnation = sym known }
 
 -- the order that was counted and put out is the next one
-pub order_is : {move : Option Move} (e : InEvent) (out new : List RowKind) (t : Tables) (job : Job) (proc : ProcId) (doc : DocId) (why : Why) (task : Task) → IsAtWorkFor move e out t → new ≡ out ++ rows.Sent job ∷ [] → job ≡ numbered_order (length t.sent.items) proc doc why task → new ≡ out ++ rows.Sent (next_order (now_of e out).jobs proc doc why task) ∷ []
+pub order_is : {sweeps : Bool} {move : Option Move} (e : InEvent) (out new : List RowKind) (t : Tables) (job : Job) (proc : ProcId) (doc : DocId) (why : Why) (task : Task) → IsAtWorkIn sweeps move e out t → new ≡ out ++ rows.Sent job ∷ [] → job ≡ numbered_order (length t.sent.items) proc doc why task → new ≡ out ++ rows.Sent (next_order (now_of e out).jobs proc doc why task) ∷ []
 order_is e out new t job proc doc why task work is counted =
     is ∙ ap (λ (j : Job). out ++ rows.Sent j ∷ []) (counted ∙ ap (λ (n : ℕ). numbered_order n proc doc why task) work.holds.sent)
 
 -- the process to which it goes
-module _ {move : Option Move} (e : InEvent) (out : List RowKind) (t : Tables) (doc : DocId) (d : Document) (work : IsAtWorkFor move e out t) (found : document_in_log (now_of e out) doc ≡ Some d) where
+module _ {sweeps : Bool} {move : Option Move} (e : InEvent) (out : List RowKind) (t : Tables) (doc : DocId) (d : Document) (work : IsAtWorkIn sweeps move e out t) (found : document_in_log (now_of e out) doc ≡ Some d) where
   pub has_proc : IsSome (proc_in t.whose.entries doc)
   has_proc = proc_known (now_of e out) t.whose.entries work.holds.whose doc d found
 
@@ -375,7 +386,7 @@ few_made e out t job nav state work =
 -- ---- loads
 
 -- an order that makes no document and discards none leaves them
-pub loads_sent : {move : Option Move} (e : InEvent) (out : List RowKind) (t u : Tables) (job : Job) → KeepsThem job.task → IsAtWorkFor move e out t → u.loads ≡ t.loads → TiesLoads (after (now_of e out) (row_of e (rows.Sent job))) u.loads
+pub loads_sent : {sweeps : Bool} {move : Option Move} (e : InEvent) (out : List RowKind) (t u : Tables) (job : Job) → KeepsThem job.task → IsAtWorkIn sweeps move e out t → u.loads ≡ t.loads → TiesLoads (after (now_of e out) (row_of e (rows.Sent job))) u.loads
 loads_sent e out t u job keeps work same =
     subst (λ (l : List Load). TiesLoads (after (now_of e out) (row_of e (rows.Sent job))) l) (sym same) (sent_tied (now_of e out) e.event e.actor t.loads work.loads job keeps)
 

@@ -20,7 +20,7 @@ use Rattle.seen_facts.specs.Each.Runs.{is_run}
 use Rattle.seen_laws.specs.InEvent.{InEvent}
 use Rattle.seen_laws.specs.Sending.{IsShowDue, IsTo, is_passed}
 use Rattle.std.specs.Option.{option_map_or}
-use Rattle.std.specs.Prelude.{List, None, Option, Some, [], false, map, option_map, true, ℕ, ◌+◌, ◌==◌, ◌||◌, ◌≡◌}
+use Rattle.std.specs.Prelude.{List, None, Option, Some, [], false, map, option_map, true, ℕ, ◌+◌, ◌==◌, ◌||◌, ◌≡◌, Bool}
 use Rattle.tab_ids.specs.declared.DocId.{DocId}
 use Rattle.tab_ids.specs.declared.EntryId.{EntryId}
 use Rattle.tab_ids.specs.declared.Epoch.{Epoch}
@@ -89,3 +89,9 @@ pub record IsToGo (s : Seen) (tree : Tree) (loads : List Load) (navs : List NavI
 pub record InMove : Type 0 where
   pub event : InEvent
   pub move : Option Move
+
+-- the same, and whether documents are swept
+pub record InDiscard : Type 0 where
+  pub event : InEvent
+  pub move : Option Move
+  pub sweeps : Bool

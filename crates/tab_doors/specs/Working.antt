@@ -1,6 +1,6 @@
 -- A coordinator that works in an event: its tables stand for what the log has come to, and the rows so far pass.
 -- This project's own.
-use Rattle.unasked_dues.specs.Checking.{AreNumbered, NoStepChecks}
+use Rattle.unasked_dues.specs.Checking.{AreNumbered, NoStepChecks, NonePasses}
 use Rattle.unasked_dues.specs.Reading.{AreDebts, BeginSole, WereRead}
 use Rattle.checking_facts.specs.Checks.{AreInCheck}
 use Rattle.tab_doors.specs.Look.{Look, look_of}
@@ -11,7 +11,7 @@ use Rattle.checking_facts.specs.Prompts.{AreAskedDuly, PassIf, PromptsFor, noted
 use Rattle.unload_check.specs.Checks.{OpenCheck}
 use Rattle.seen_facts.specs.Kept.Keeping.{kept_states}
 use Rattle.seen_facts.specs.LoadTies.Tying.{TiesLoads}
-use Rattle.log_model.specs.Seen.{Asked, request_in}
+use Rattle.log_model.specs.Seen.{Asked, request_in, Seen}
 use Rattle.log_model.specs.declared.job.Job.{Job}
 use Rattle.log_model.specs.declared.job.Task.{Task}
 use Rattle.log_model.specs.declared.row_kind.Actor.{Actor}
@@ -20,7 +20,7 @@ use Rattle.log_model.specs.declared.row_kind.RowKind.{RowKind}
 use Rattle.seen_laws.specs.Blocks.{MayLog}
 use Rattle.seen_laws.specs.InEvent.{EachGoes, InEvent, here_of, log_of, now_of, row_of}
 use Rattle.seen_laws.specs.Sending.{leads}
-use Rattle.std.specs.Prelude.{List, None, Option, Some, [], length, true, ◌+◌, ◌∷◌, ◌≡◌, ◌≤◌}
+use Rattle.std.specs.Prelude.{Bool, List, None, Option, Some, [], false, length, true, ◌+◌, ◌∷◌, ◌≡◌, ◌≤◌}
 use Rattle.tab_ids.specs.declared.DocId.{DocId}
 use Rattle.tab_ids.specs.declared.ReqId.{ReqId}
 use Rattle.tab_ids.specs.declared.Step.{Step}
@@ -79,9 +79,19 @@ MaySend move e out job = MayLog (here_of e out) (row_of e (rows.Sent job) ∷ []
 abbrev pub StartsPlain : InEvent → Type 0
 StartsPlain e = log_of e [] ≡ now_of e []
 
--- ---- all of it, where a move has begun, or none has
+-- the aim may be read off: no traversal in its check has passed. While documents are swept that is let go
+abbrev pub IsCalmIn : Bool → (ReqId → Bool) → Seen → Type 0
+IsCalmIn false checking s = NonePasses checking s
+IsCalmIn true checking s = Unit {0}
 
-pub record IsAtWorkFor (move : Option Move) (e : InEvent) (out : List RowKind) (t : Tables) : Type 0 where
+-- a document may be discarded: no step under way was in its check as the event began or was cut, unless documents are swept
+abbrev pub MayDiscardIn : Bool → InEvent → Type 0
+MayDiscardIn false e = NoStepChecks e.checking (log_of e [])
+MayDiscardIn true e = Unit {0}
+
+-- ---- all of it, where a move has begun, or none has, and where documents are swept, or none are
+
+pub record IsAtWorkIn (sweeps : Bool) (move : Option Move) (e : InEvent) (out : List RowKind) (t : Tables) : Type 0 where
   pub own : leads e.own ≡ true
   pub worker : IsWorker e.actor
   -- each row is seen in the log without questions, and read off; as the event began, and after each row, requests had their numbers, and whoever isn't in its check had passed
@@ -91,9 +101,10 @@ pub record IsAtWorkFor (move : Option Move) (e : InEvent) (out : List RowKind) (
   -- each load that began among the rows is the only one of its navigable; and what those before the cut owe is paid in the log if it is in the log without questions
   pub sole : BeginSole e out (log_of e out)
   pub debts : AreDebts e
-  -- it is known who is in a check: no step that is under way
+  -- it is known who is in a check, and of those who hasn't passed; no step under way is, if none was as the event began or was cut
   pub checks : AreInCheck e.checking (log_of e out)
-  pub unheld : NoStepChecks e.checking (log_of e out)
+  pub calm : IsCalmIn sweeps e.checking (log_of e out)
+  pub unheld : NoStepChecks e.checking (log_of e []) → NoStepChecks e.checking (log_of e out)
   pub holds : Holds (look_now e out t.running) t
   pub runs : IsRunning (now_of e out).requests t.running
   pub goal : HasGoal (now_of e out).requests t.running t.goal
@@ -106,9 +117,18 @@ pub record IsAtWorkFor (move : Option Move) (e : InEvent) (out : List RowKind) (
   pub asked : AreAskedDuly e.checking e.start (log_of e out) (told_by t.checks out)
   pub lawful : AreLawfulFor move e t.checks out
 
+-- where none are
+abbrev pub IsAtWorkFor : Option Move → InEvent → List RowKind → Tables → Type 0
+IsAtWorkFor move e out t = IsAtWorkIn false move e out t
+
 -- where none has
 abbrev pub IsAtWork : InEvent → List RowKind → Tables → Type 0
 IsAtWork e out t = IsAtWorkFor None e out t
+
+-- an event, and whether documents are swept in it
+pub record InSweep : Type 0 where
+  pub event : InEvent
+  pub sweeps : Bool
 
 -- ---- what a door leaves as it was
 

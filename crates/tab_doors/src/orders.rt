@@ -21,10 +21,10 @@ ghost use Rattle.seen_facts.specs.Kept.Keeping.{kept_states};
 ghost use Rattle.tab_ids.specs.declared.NavId.{NavId};
 ghost use Rattle.std.specs.Option.{IsSome};
 ghost use Rattle.tab_doors.specs.Sleeping.{AreThere, asleep_for, is_for, sleep_all};
-ghost use Rattle.tab_doors.specs.Orders.{InMove, numbered_order, next_order, order_to, IsThere, IsToGo, MayShow};
+ghost use Rattle.tab_doors.specs.Orders.{InDiscard, InMove, numbered_order, next_order, order_to, IsThere, IsToGo, MayShow};
 ghost use Rattle.tab_doors.specs.Keeping.{LeavesFor, LetsGo};
 ghost use Rattle.unasked_dues.specs.Checking.{IsForOther};
-ghost use Rattle.tab_doors.specs.Working.{IsAtWork, IsAtWorkFor, KeepsStore, MaySend};
+ghost use Rattle.tab_doors.specs.Working.{IsAtWork, IsAtWorkFor, IsAtWorkIn, KeepsStore, MayDiscardIn, MaySend};
 
 use crate::birth::Birth;
 use crate::tables::Tables;
@@ -207,15 +207,16 @@ impl Tables {
         state: StateId,
         why: Why,
     ) -> Result<(), OutOfMemory>
-        ghost m: { InMove }
-        requires work { IsAtWorkFor m.move m.event out.old self.old }
+        ghost m: { InDiscard }
+        requires work { IsAtWorkIn m.sweeps m.move m.event out.old self.old }
         requires for_other { IsForOther m.event.checking why }
         requires may { MaySend m.move m.event out.old (order_to (now_of m.event out.old) doc why tasks.Discard) }
         requires gone { IsToGo (now_of m.event out.old) self.old.tree self.old.loads sleepers.now doc state }
         requires listed { AreThere (discarded state self.old.tree) sleepers.now }
         requires own_state { AreOfOwnStates (now_of m.event out.old).documents (now_of m.event out.old).kept doc state }
         requires lets_go { LetsGo m.move self.old.kept.keep (kept_states (now_of m.event out.old)) state }
-        ensures work { OnOk result (IsAtWorkFor m.move m.event out.new self.new) }
+        requires free { MayDiscardIn m.sweeps m.event }
+        ensures work { OnOk result (IsAtWorkIn m.sweeps m.move m.event out.new self.new) }
         ensures out { OnOk result (out.new ≡ out.old ++ rows.Sent (order_to (now_of m.event out.old) doc why tasks.Discard) ∷ []) }
         ensures kept { OnOk result (KeepsStore self.old self.new) }
     {

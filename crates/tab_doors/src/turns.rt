@@ -8,6 +8,7 @@ ghost use Rattle.seen_laws.specs.InEvent.{InEvent, log_of, now_of};
 ghost use Rattle.tab_doors.specs.Dues.{AsksNone, IsBeginDue, IsNowhere, IsDenyDue, IsDestroyDue, IsDropDue};
 ghost use Rattle.tab_doors.specs.Keeping.{IsNoLoad};
 ghost use Rattle.tab_doors.specs.Working.{IsAtWork};
+ghost use Rattle.unasked_dues.specs.Checking.{NoStepChecks};
 
 use crate::tables::Tables;
 use address::OutOfMemory;
@@ -22,6 +23,7 @@ impl Tables {
         requires none { self.old.running ≡ None }
         requires due { IsBeginDue (now_of e out.old) req goal }
         requires unasked { AsksNone (log_of e out.old) req (Some goal) }
+        requires free { NoStepChecks e.checking (log_of e []) }
         ensures work { OnOk result (IsAtWork e out.new self.new) }
         ensures out { OnOk result (out.new ≡ out.old ++ rows.Started req (Some goal) ∷ []) }
         ensures tables { OnOk result (self.new ≡ record self.old { running = Some req; goal = goal }) }
@@ -41,6 +43,7 @@ impl Tables {
         requires work { IsAtWork e out.old self.old }
         requires nowhere { IsNowhere e out.old req }
         requires apart { is_this self.old.running req ≡ false }
+        requires free { NoStepChecks e.checking (log_of e []) }
         ensures work { OnOk result (IsAtWork e out.new self.new) }
         ensures out { OnOk result (out.new ≡ out.old ++ rows.Refused req denials.NoStep ∷ []) }
         ensures tables { self.new ≡ self.old }

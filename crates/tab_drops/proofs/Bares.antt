@@ -41,7 +41,7 @@ use Rattle.tab_drops.proofs.Turns.{tied_load}
 use Rattle.tab_drops.specs.Dropping.{ArePlaced, AreUnheld, IsBare, IsLoadOf}
 use Rattle.tab_drops.specs.Ways.{bare_load_in}
 use Rattle.tab_moves.proofs.PassedOn.{count_few}
-use Rattle.tab_moves.specs.PassedOn.{IsPassing, count_of, has_ended}
+use Rattle.tab_moves.specs.PassedOn.{IsPassingIn, count_of, has_ended}
 use Rattle.tab_ids.specs.declared.NavId.{NavId}
 use Rattle.tab_ids.specs.declared.ReqId.{ReqId}
 use Rattle.tab_moves.specs.Moving.{InPass}
@@ -70,7 +70,7 @@ row_any entries nav low = by_tests (has_row nav entries) (dues.has_any entries n
     by_tests false true is e = let never : true ≡ false = sym (back e) ∙ is in absurd cc
     by_tests false false is e = is ∙ sym e
 
-module _ (p : InPass) (out : List RowKind) (t : Tables) (pass : IsPassing p out t) where
+module _ {sweeps : Bool} (p : InPass) (out : List RowKind) (t : Tables) (pass : IsPassingIn sweeps p out t) where
   abbrev s : Seen
   s = now_of p.event out
 

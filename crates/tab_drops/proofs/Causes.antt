@@ -21,7 +21,7 @@ use Rattle.row_facts.proofs.Owed.Rows.{dropped_stays, reckoned_now}
 use Rattle.row_facts.specs.Owed.Owed.{IsLoose, IsOwed}
 use Rattle.seen_laws.specs.Blocks.{point_at}
 use Rattle.seen_laws.specs.InEvent.{now_of, seen_here}
-use Rattle.std.proofs.Common.{List, None, Option, Some, [], ap, false, inl, inr, refl, sym, true, ℕ, ◌++◌, ◌∙◌, ◌∷◌, ◌≡◌, ◌⊎◌}
+use Rattle.std.proofs.Common.{Bool, List, None, Option, Some, [], ap, false, inl, inr, refl, sym, true, ℕ, ◌++◌, ◌∙◌, ◌∷◌, ◌≡◌, ◌⊎◌}
 use Rattle.std.proofs.lemmas.Bool.{and_parts, and_right}
 use Rattle.std.specs.Option.{option_map_or}
 use Rattle.std.specs.Prelude.{is_none, option_and_then}
@@ -34,14 +34,14 @@ use Rattle.tab_drops.specs.Turns.{GivesWay, IsByLoad}
 use Rattle.tab_ids.specs.declared.NavId.{NavId}
 use Rattle.tab_ids.specs.declared.ReqId.{ReqId}
 use Rattle.tab_moves.proofs.Needing.{aim_is}
-use Rattle.tab_moves.specs.PassedOn.{IsPassing}
+use Rattle.tab_moves.specs.PassedOn.{IsPassingIn}
 use Rattle.tab_moves.specs.Moving.{InPass}
 use Rattle.tab_moves.specs.Showing.{aim_in}
 use Rattle.row_facts.proofs.WalkRows.Needs.{dropped_stood, need_not_all_stand, need_stands_not}
 use Rattle.log_model.specs.declared.outcome.Cause.TheVariants as causes
 use Rattle.log_model.specs.declared.row_kind.RowKind.TheVariants as rows
 
-module _ (p : InPass) (out : List RowKind) (t : Tables) (pass : IsPassing p out t) (req : ReqId) (nav : NavId) (load : IsLoadOf (now_of p.event out) req nav) (by : ReqId) (away : IsUnsettled (now_of p.event out) nav) where
+module _ {sweeps : Bool} (p : InPass) (out : List RowKind) (t : Tables) (pass : IsPassingIn sweeps p out t) (req : ReqId) (nav : NavId) (load : IsLoadOf (now_of p.event out) req nav) (by : ReqId) (away : IsUnsettled (now_of p.event out) nav) where
   abbrev s : Seen
   s = now_of p.event out
 
@@ -137,7 +137,7 @@ module _ (p : InPass) (out : List RowKind) (t : Tables) (pass : IsPassing p out 
       owed_more p.event out (rows.Dropped req (causes.By by)) (dropped_goes p.event out req (causes.By by)).read pass.owed (dropped_stays s p.event.event p.event.actor req (reckoned_now p.event out) (idle p out t pass req nav load) (causes.By by)) (still_moved_owes p.event out req by nav its.q it.mover (dropped_by it.mover it.found) (still_moved none it))
 
 -- either
-pub gives_owed : (p : InPass) (out : List RowKind) (t : Tables) (pass : IsPassing p out t) (req : ReqId) (nav : NavId) (load : IsLoadOf (now_of p.event out) req nav) (by : ReqId) → GivesWay (now_of p.event out) t.running by nav → IsOwed p.event (out ++ rows.Dropped req (causes.By by) ∷ [])
+pub gives_owed : {sweeps : Bool} (p : InPass) (out : List RowKind) (t : Tables) (pass : IsPassingIn sweeps p out t) (req : ReqId) (nav : NavId) (load : IsLoadOf (now_of p.event out) req nav) (by : ReqId) → GivesWay (now_of p.event out) t.running by nav → IsOwed p.event (out ++ rows.Dropped req (causes.By by) ∷ [])
 gives_owed p out t pass req nav load by gives = by_cause gives.cause
   where
     by_cause : (t.running ≡ Some by) ⊎ ((t.running ≡ None) × IsByLoad (now_of p.event out) by nav) → IsOwed p.event (out ++ rows.Dropped req (causes.By by) ∷ [])

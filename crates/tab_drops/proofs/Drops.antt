@@ -30,7 +30,7 @@ use Rattle.row_facts.specs.RestRows.Moving.{AllRest}
 use Rattle.seen_laws.specs.InEvent.{now_of}
 use Rattle.std.proofs.Common.{Bool, List, None, Option, Some, [], ap, arith, false, inr, length, refl, subst, sym, true, ℕ, ◌&&◌, ◌++◌, ◌<◌, ◌==◌, ◌∙◌, ◌∷◌, ◌≡◌, ◌≤◌}
 use Rattle.std.specs.Prelude.{option_map}
-use Rattle.tab_doors.specs.Working.{IsAtWork, KeepsStore}
+use Rattle.tab_doors.specs.Working.{IsAtWorkIn, KeepsStore}
 use Rattle.tab_doors.specs.declared.tables.Tables.{Tables}
 use Rattle.tab_drops.proofs.Loads.{IsAskedFor, asked_for, open_of}
 use Rattle.tab_drops.specs.Dropping.{AreUnheld, IsLoadOf, LeavesAll}
@@ -38,7 +38,7 @@ use Rattle.tab_moves.proofs.Makings.{IsGoing}
 use Rattle.tab_ids.specs.declared.NavId.{NavId}
 use Rattle.tab_ids.specs.declared.ReqId.{ReqId}
 use Rattle.tab_moves.proofs.Frees.{goes_on}
-use Rattle.tab_moves.specs.PassedOn.{IsPassing, IsTab, MayServe}
+use Rattle.tab_moves.specs.PassedOn.{IsPassingIn, IsTab, MayServe}
 use Rattle.tab_moves.specs.Moving.{InPass}
 use Rattle.row_facts.proofs.WalkRows.Moved.{dropped_moved}
 use Rattle.log_model.specs.declared.outcome.Ending.TheVariants as endings
@@ -88,7 +88,7 @@ leaves_then s t u one two =
 on_way : (q : Asked) → is_ongoing_load q ≡ true → 0 < times_on_way (Some q)
 on_way q ongoing = (let one : 0 < times_on_way (Some q) = rw ongoing (omega arith) in one)
 
-module _ (p : InPass) (out : List RowKind) (t : Tables) (pass : IsPassing p out t) (req : ReqId) (nav : NavId) (load : IsLoadOf (now_of p.event out) req nav) where
+module _ {sweeps : Bool} (p : InPass) (out : List RowKind) (t : Tables) (pass : IsPassingIn sweeps p out t) (req : ReqId) (nav : NavId) (load : IsLoadOf (now_of p.event out) req nav) where
   abbrev s : Seen
   s = now_of p.event out
 
@@ -132,10 +132,10 @@ module _ (p : InPass) (out : List RowKind) (t : Tables) (pass : IsPassing p out 
   going_then cause =
       dropped_going t.running p.loads p.hand s p.event.event p.event.actor pass.going req its.q its.at (open_of its.q its.ongoing) cause p.loads p.hand (tab_then cause) (dropped_lasting s p.event.event p.event.actor pass.going.lasting req cause)
 
-  pub passing_then : (cause : Cause) → IsOwed p.event (out ++ rows.Dropped req cause ∷ []) → (all_stand (then_ cause) (aim_of (then_ cause)) ≡ true → IsLoose p.event (out ++ rows.Dropped req cause ∷ [])) → (u : Tables) (new : List RowKind) → new ≡ out ++ rows.Dropped req cause ∷ [] → KeepsStore t u → IsAtWork p.event new u → IsPassing p new u
+  pub passing_then : (cause : Cause) → IsOwed p.event (out ++ rows.Dropped req cause ∷ []) → (all_stand (then_ cause) (aim_of (then_ cause)) ≡ true → IsLoose p.event (out ++ rows.Dropped req cause ∷ [])) → (u : Tables) (new : List RowKind) → new ≡ out ++ rows.Dropped req cause ∷ [] → KeepsStore t u → IsAtWorkIn sweeps None p.event new u → IsPassingIn sweeps p new u
   passing_then cause owed loose u new is keeps work =
-      subst (λ (l : List RowKind). IsPassing p l u) (sym is) (record {
-        work = subst (λ (l : List RowKind). IsAtWork p.event l u) is work;
+      subst (λ (l : List RowKind). IsPassingIn sweeps p l u) (sym is) (record {
+        work = subst (λ (l : List RowKind). IsAtWorkIn sweeps None p.event l u) is work;
         going = subst (λ (x : Seen). IsGoing u.running p.loads p.hand x) now_is (subst (λ (r : Option ReqId). IsGoing r p.loads p.hand (then_ cause)) (sym keeps.running) (going_then cause));
         owed = owed;
         loose = λ stand. loose (subst (λ (x : Seen). all_stand x (aim_of x) ≡ true) (sym now_is) stand);

@@ -28,7 +28,7 @@ use Rattle.tab_drops.proofs.Loads.{IsAskedFor, IsNavLoad, asked_for, nav_load}
 use Rattle.tab_drops.specs.Dropping.{ArePlaced, AreUnheld, IsBare, IsLoadApplied, IsLoadOf, IsUnsettled, StandOrBare, StandOrMove}
 use Rattle.tab_ids.specs.declared.NavId.{NavId}
 use Rattle.tab_ids.specs.declared.ReqId.{ReqId}
-use Rattle.tab_moves.specs.PassedOn.{IsPassing, IsTab}
+use Rattle.tab_moves.specs.PassedOn.{IsPassingIn, IsTab}
 use Rattle.tab_moves.specs.Moving.{InPass}
 use Rattle.seen_facts.specs.Doc.Docs.{HasPlace}
 use Rattle.log_model.specs.declared.made.Made.{Made}
@@ -37,7 +37,7 @@ use Rattle.log_model.specs.declared.row_kind.RowKind.TheVariants as rows
 pub use Rattle.tab_drops.proofs.Spans.{unheld_on}
 
 -- as the event begins
-pub unheld_first : (p : InPass) (t : Tables) → p.event.before ≡ [] → IsPassing p [] t → AreUnheld p.event (now_of p.event [])
+pub unheld_first : {sweeps : Bool} (p : InPass) (t : Tables) → p.event.before ≡ [] → IsPassingIn sweeps p [] t → AreUnheld p.event (now_of p.event [])
 unheld_first p t uncut pass req nav load =
     ap (λ (l : List ReqId). has_req l req) (sym (uncut_held p.event uncut)) ∙ (unheld p [] t pass req nav load).parked
 

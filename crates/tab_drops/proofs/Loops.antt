@@ -2,7 +2,7 @@
 use Rattle.log_model.specs.Seen.{Seen}
 use Rattle.log_model.specs.declared.row_kind.RowKind.{RowKind}
 use Rattle.seen_laws.specs.InEvent.{now_of}
-use Rattle.std.proofs.Common.{List, None, Some, ℕ, ◌+◌, ◌∙◌, ◌≡◌, length, ◌≤◌, sym, subst}
+use Rattle.std.proofs.Common.{Bool, List, None, Some, ℕ, ◌+◌, ◌∙◌, ◌≡◌, length, ◌≤◌, sym, subst}
 use Rattle.std.specs.Prelude.{slice_get}
 use Rattle.tab_doors.specs.Working.{KeepsStore}
 use Rattle.tab_doors.specs.declared.tables.Tables.{Tables}
@@ -11,13 +11,13 @@ use Rattle.tab_drops.proofs.Turns.{applied_on, bare_back, bare_on, below_back, b
 use Rattle.seen_facts.specs.LoadEnds.Standing.{LoadsStand}
 use Rattle.tab_drops.specs.Dropping.{ArePlaced, AreUnheld, EndsLoads, HasOnlyDestroyed, HasOnlyDroppedBy, HaveEntries, IsBare, IsBelowNav, IsDestroyedLoad, IsDroppedFor, IsLoadApplied, IsUnsettled, StandOrBare, StandOrMove}
 use Rattle.tab_drops.specs.Listing.{AreListed}
-use Rattle.tab_drops.specs.Turns.{IsDropping, IsTurnAt}
+use Rattle.tab_drops.specs.Turns.{IsDroppingIn, IsTurnAt}
 use Rattle.tab_ids.specs.declared.NavId.{NavId}
 use Rattle.tab_ids.specs.declared.ReqId.{ReqId}
-use Rattle.tab_moves.specs.PassedOn.{IsPassing}
+use Rattle.tab_moves.specs.PassedOn.{IsPassingIn}
 use Rattle.tab_moves.specs.Moving.{InPass}
 
-module _ (p : InPass) (was : List RowKind) (t : Tables) (begins : IsPassing p was t) (navs listed_ : List NavId) (same : navs ≡ listed_) (are : AreListed t.tree t.loads listed_) where
+module _ {sweeps : Bool} (p : InPass) (was : List RowKind) (t : Tables) (begins : IsPassingIn sweeps p was t) (navs listed_ : List NavId) (same : navs ≡ listed_) (are : AreListed t.tree t.loads listed_) where
   abbrev s0 : Seen
   s0 = now_of p.event was
 
@@ -30,11 +30,11 @@ module _ (p : InPass) (was : List RowKind) (t : Tables) (begins : IsPassing p wa
 
     -- ---- for the traversal that runs
 
-    module _ (by : ReqId) (is : IsDropping p (IsDroppedFor (now_of p.event was) by (IsUnsettled (now_of p.event was))) (IsUnsettled (now_of p.event was)) t was navs n u out) where
-      pub moved_asks : AreUnheld p.event s0 → t.running ≡ Some by → IsPassing p out u × (AreUnheld p.event s × (u.running ≡ Some by))
+    module _ (by : ReqId) (is : IsDroppingIn sweeps p (IsDroppedFor (now_of p.event was) by (IsUnsettled (now_of p.event was))) (IsUnsettled (now_of p.event was)) t was navs n u out) where
+      pub moved_asks : AreUnheld p.event s0 → t.running ≡ Some by → IsPassingIn sweeps p out u × (AreUnheld p.event s × (u.running ≡ Some by))
       moved_asks held runs = (is.passing, (unheld_on p s0 s is.left held, is.kept.running ∙ runs))
 
-      pub moved_next : (nav : NavId) (v : Tables) (new : List RowKind) → slice_get navs n ≡ Some nav → IsTurnAt (IsDroppedFor s by (IsUnsettled s)) (IsUnsettled s) nav s (now_of p.event new) out new → IsPassing p new v → KeepsStore u v → IsDropping p (IsDroppedFor s0 by (IsUnsettled s0)) (IsUnsettled s0) t was navs (n + 1) v new
+      pub moved_next : (nav : NavId) (v : Tables) (new : List RowKind) → slice_get navs n ≡ Some nav → IsTurnAt (IsDroppedFor s by (IsUnsettled s)) (IsUnsettled s) nav s (now_of p.event new) out new → IsPassingIn sweeps p new v → KeepsStore u v → IsDroppingIn sweeps p (IsDroppedFor s0 by (IsUnsettled s0)) (IsUnsettled s0) t was navs (n + 1) v new
       moved_next nav v new at turn passing keeps =
           drops_next p (IsDroppedFor s0 by (IsUnsettled s0)) (IsUnsettled s0) t was navs begins listed n u out is nav (IsDroppedFor s by (IsUnsettled s)) (IsUnsettled s) v new at (moved_drop_back s0 s is.left by) (unsettled_on s0 s is.left) (unsettled_back s0 s is.left) turn passing keeps
 
@@ -50,12 +50,12 @@ module _ (p : InPass) (was : List RowKind) (t : Tables) (begins : IsPassing p wa
 
     -- ---- for a load that was applied
 
-    module _ (top : NavId) (by : ReqId) (is : IsDropping p (IsDroppedFor (now_of p.event was) by (IsBelowNav (now_of p.event was) top)) (IsBelowNav (now_of p.event was) top) t was navs n u out) where
-      pub below_asks : AreUnheld p.event s0 → t.running ≡ None → IsLoadApplied s0 top by → IsPassing p out u × (AreUnheld p.event s × ((u.running ≡ None) × IsLoadApplied s top by))
+    module _ (top : NavId) (by : ReqId) (is : IsDroppingIn sweeps p (IsDroppedFor (now_of p.event was) by (IsBelowNav (now_of p.event was) top)) (IsBelowNav (now_of p.event was) top) t was navs n u out) where
+      pub below_asks : AreUnheld p.event s0 → t.running ≡ None → IsLoadApplied s0 top by → IsPassingIn sweeps p out u × (AreUnheld p.event s × ((u.running ≡ None) × IsLoadApplied s top by))
       below_asks held none applied =
           (is.passing, (unheld_on p s0 s is.left held, (is.kept.running ∙ none, applied_on s0 s is.left top by begins.going.tab.movers.ends applied)))
 
-      pub below_next : (nav : NavId) (v : Tables) (new : List RowKind) → slice_get navs n ≡ Some nav → IsTurnAt (IsDroppedFor s by (IsBelowNav s top)) (IsBelowNav s top) nav s (now_of p.event new) out new → IsPassing p new v → KeepsStore u v → IsDropping p (IsDroppedFor s0 by (IsBelowNav s0 top)) (IsBelowNav s0 top) t was navs (n + 1) v new
+      pub below_next : (nav : NavId) (v : Tables) (new : List RowKind) → slice_get navs n ≡ Some nav → IsTurnAt (IsDroppedFor s by (IsBelowNav s top)) (IsBelowNav s top) nav s (now_of p.event new) out new → IsPassingIn sweeps p new v → KeepsStore u v → IsDroppingIn sweeps p (IsDroppedFor s0 by (IsBelowNav s0 top)) (IsBelowNav s0 top) t was navs (n + 1) v new
       below_next nav v new at turn passing keeps =
           drops_next p (IsDroppedFor s0 by (IsBelowNav s0 top)) (IsBelowNav s0 top) t was navs begins listed n u out is nav (IsDroppedFor s by (IsBelowNav s top)) (IsBelowNav s top) v new at (below_drop_back s0 s is.left top by) (below_on s0 s is.left top) (below_back s0 s is.left top) turn passing keeps
 
@@ -68,11 +68,11 @@ module _ (p : InPass) (was : List RowKind) (t : Tables) (begins : IsPassing p wa
 
     -- ---- by who took the entries
 
-    module _ (is : IsDropping p (IsDestroyedLoad (now_of p.event was)) (IsBare (now_of p.event was)) t was navs n u out) where
-      pub bare_asks : AreUnheld p.event s0 → ArePlaced s0 → IsPassing p out u × (AreUnheld p.event s × ArePlaced s)
+    module _ (is : IsDroppingIn sweeps p (IsDestroyedLoad (now_of p.event was)) (IsBare (now_of p.event was)) t was navs n u out) where
+      pub bare_asks : AreUnheld p.event s0 → ArePlaced s0 → IsPassingIn sweeps p out u × (AreUnheld p.event s × ArePlaced s)
       bare_asks held placed = (is.passing, (unheld_on p s0 s is.left held, placed_on s0 s is.left placed))
 
-      pub bare_next : (nav : NavId) (v : Tables) (new : List RowKind) → slice_get navs n ≡ Some nav → IsTurnAt (IsDestroyedLoad s) (IsBare s) nav s (now_of p.event new) out new → IsPassing p new v → KeepsStore u v → IsDropping p (IsDestroyedLoad s0) (IsBare s0) t was navs (n + 1) v new
+      pub bare_next : (nav : NavId) (v : Tables) (new : List RowKind) → slice_get navs n ≡ Some nav → IsTurnAt (IsDestroyedLoad s) (IsBare s) nav s (now_of p.event new) out new → IsPassingIn sweeps p new v → KeepsStore u v → IsDroppingIn sweeps p (IsDestroyedLoad s0) (IsBare s0) t was navs (n + 1) v new
       bare_next nav v new at turn passing keeps =
           drops_next p (IsDestroyedLoad s0) (IsBare s0) t was navs begins listed n u out is nav (IsDestroyedLoad s) (IsBare s) v new at (destroyed_back s0 s is.left) (bare_on s0 s is.left) (bare_back s0 s is.left) turn passing keeps
 

@@ -18,11 +18,11 @@ use Rattle.tab_drops.proofs.Drops.{leaves_none, leaves_then}
 use Rattle.tab_drops.proofs.Loads.{load_back, load_held, load_on}
 use Rattle.tab_drops.specs.Dropping.{AreRising, AreUnheld, Drop, EndsLoads, HasOnlyDropped, IsLoadOf, LeavesAll, row_of_drop}
 use Rattle.tab_drops.specs.Listing.{AreListed}
-use Rattle.tab_drops.specs.Turns.{IsAmong, IsDropping, IsOfFirst, IsTurnAt}
+use Rattle.tab_drops.specs.Turns.{IsAmong, IsDroppingIn, IsOfFirst, IsTurnAt}
 use Rattle.tab_ids.specs.declared.NavId.{NavId}
 use Rattle.tab_ids.specs.declared.ReqId.{ReqId}
 use Rattle.tab_moves.proofs.PassedOn.{kept_none, kept_then}
-use Rattle.tab_moves.specs.PassedOn.{IsPassing}
+use Rattle.tab_moves.specs.PassedOn.{IsPassingIn}
 use Rattle.tab_moves.specs.Moving.{InPass}
 
 -- ---- what was put out
@@ -91,11 +91,11 @@ among_next navs n nav other at is = by_test (is.k == n) refl
 
 -- ---- the turns
 
-module _ (p : InPass) (Is : Drop → Type 0) (Gone : NavId → Type 0) (t : Tables) (was : List RowKind) (navs : List NavId) (begins : IsPassing p was t) where
+module _ {sweeps : Bool} (p : InPass) (Is : Drop → Type 0) (Gone : NavId → Type 0) (t : Tables) (was : List RowKind) (navs : List NavId) (begins : IsPassingIn sweeps p was t) where
   abbrev s0 : Seen
   s0 = now_of p.event was
 
-  pub drops_begin : IsDropping p Is Gone t was navs 0 t was
+  pub drops_begin : IsDroppingIn sweeps p Is Gone t was navs 0 t was
   drops_begin =
       record {
         passing = begins;
@@ -115,12 +115,12 @@ module _ (p : InPass) (Is : Drop → Type 0) (Gone : NavId → Type 0) (t : Tabl
   held : (req : ReqId) (nav : NavId) → IsLoadOf s0 req nav → IsHeldAs req nav
   held req nav load = let it = load_held s0 t.loads req nav begins.work.loads load in record { load = it.load; at = it.at; req_is = it.req_is }
 
-  module _ (listed : AreListed t.tree t.loads navs) (n : ℕ) (u : Tables) (out : List RowKind) (is : IsDropping p Is Gone t was navs n u out) where
+  module _ (listed : AreListed t.tree t.loads navs) (n : ℕ) (u : Tables) (out : List RowKind) (is : IsDroppingIn sweeps p Is Gone t was navs n u out) where
     abbrev s : Seen
     s = now_of p.event out
 
     -- what stands for the next turn: the words of it as of here
-    pub drops_next : (nav : NavId) (IsHere : Drop → Type 0) (GoneHere : NavId → Type 0) (v : Tables) (new : List RowKind) → slice_get navs n ≡ Some nav → ((d : Drop) → IsHere d → Is d) → ((other : NavId) → Gone other → GoneHere other) → ((other : NavId) → GoneHere other → Gone other) → IsTurnAt IsHere GoneHere nav s (now_of p.event new) out new → IsPassing p new v → KeepsStore u v → IsDropping p Is Gone t was navs (n + 1) v new
+    pub drops_next : (nav : NavId) (IsHere : Drop → Type 0) (GoneHere : NavId → Type 0) (v : Tables) (new : List RowKind) → slice_get navs n ≡ Some nav → ((d : Drop) → IsHere d → Is d) → ((other : NavId) → Gone other → GoneHere other) → ((other : NavId) → GoneHere other → Gone other) → IsTurnAt IsHere GoneHere nav s (now_of p.event new) out new → IsPassingIn sweeps p new v → KeepsStore u v → IsDroppingIn sweeps p Is Gone t was navs (n + 1) v new
     unfolding drops_as
     drops_next nav IsHere GoneHere v new at as_ onto back turn passing keeps =
         record {

@@ -34,7 +34,7 @@ use Rattle.tab_drops.specs.Listing.{AreOwn}
 use Rattle.tab_drops.specs.Turns.{GivesWay, IsAnyNav, IsTurnAt}
 use Rattle.tab_ids.specs.declared.NavId.{NavId}
 use Rattle.tab_ids.specs.declared.ReqId.{ReqId}
-use Rattle.tab_moves.specs.PassedOn.{IsPassing}
+use Rattle.tab_moves.specs.PassedOn.{IsPassingIn}
 use Rattle.tab_moves.specs.Moving.{InPass}
 use Rattle.seen_facts.specs.Walk.Serving.{is_needing, is_stopping}
 use Rattle.row_facts.specs.WalkRows.Since.{IsVisitedInNeed}
@@ -99,7 +99,7 @@ turn_kept As Gone nav s out none =
 
 -- ---- it has no load
 
-module _ (p : InPass) (out : List RowKind) (t : Tables) (pass : IsPassing p out t) (nav : NavId) where
+module _ {sweeps : Bool} (p : InPass) (out : List RowKind) (t : Tables) (pass : IsPassingIn sweeps p out t) (nav : NavId) where
   abbrev s : Seen
   s = now_of p.event out
 

@@ -7,13 +7,13 @@ use Rattle.log_model.specs.Seen.{Asked, Seen, request_of}
 use Rattle.log_model.specs.declared.change.Change.{Change}
 use Rattle.log_model.specs.declared.row_kind.RowKind.{RowKind}
 use Rattle.seen_laws.specs.InEvent.{now_of}
-use Rattle.std.specs.Prelude.{List, None, Option, Some, false, slice_get, true, ℕ, ◌<◌, ◌==◌, ◌≡◌, ◌⊎◌}
+use Rattle.std.specs.Prelude.{Bool, List, None, Option, Some, false, slice_get, true, ℕ, ◌<◌, ◌==◌, ◌≡◌, ◌⊎◌}
 use Rattle.tab_doors.specs.Working.{KeepsStore}
 use Rattle.tab_doors.specs.declared.tables.Tables.{Tables}
 use Rattle.tab_drops.specs.Dropping.{Drop, HasOnlyDropped, IsLoadOf, IsUnsettled, LeavesAll}
 use Rattle.tab_ids.specs.declared.NavId.{NavId}
 use Rattle.tab_ids.specs.declared.ReqId.{ReqId}
-use Rattle.tab_moves.specs.PassedOn.{IsPassing}
+use Rattle.tab_moves.specs.PassedOn.{IsPassingIn}
 use Rattle.tab_moves.specs.Moving.{InPass}
 use Rattle.log_model.specs.declared.outcome.Cause.TheVariants as causes
 
@@ -65,11 +65,15 @@ pub record IsOfFirst (s : Seen) (navs : List NavId) (n : ℕ) (d : Drop) : Type 
   pub load : IsLoadOf s d.req nav
   pub among : IsAmong navs n nav
 
--- so many navigables of the list have had their turn
-pub record IsDropping (p : InPass) (Is : Drop → Type 0) (Gone : NavId → Type 0) (t : Tables) (was : List RowKind) (navs : List NavId) (n : ℕ) (u : Tables) (out : List RowKind) : Type 0 where
-  pub passing : IsPassing p out u
+-- so many navigables of the list have had their turn; where documents are swept, or none are
+pub record IsDroppingIn (sweeps : Bool) (p : InPass) (Is : Drop → Type 0) (Gone : NavId → Type 0) (t : Tables) (was : List RowKind) (navs : List NavId) (n : ℕ) (u : Tables) (out : List RowKind) : Type 0 where
+  pub passing : IsPassingIn sweeps p out u
   pub left : LeavesAll (now_of p.event was) (now_of p.event out)
   pub ended : (req : ReqId) (nav : NavId) → IsLoadOf (now_of p.event out) req nav → IsAmong navs n nav → Gone nav → ⊥
   pub others : (req : ReqId) (nav : NavId) → IsLoadOf (now_of p.event was) req nav → (Gone nav → ⊥) → request_of (now_of p.event out) req ≡ request_of (now_of p.event was) req
   pub only : HasOnlyDropped (λ d. Is d × IsOfFirst (now_of p.event was) navs n d) was out
   pub kept : KeepsStore t u
+
+-- where none are
+abbrev pub IsDropping : InPass → (Drop → Type 0) → (NavId → Type 0) → Tables → List RowKind → List NavId → ℕ → Tables → List RowKind → Type 0
+IsDropping p Is Gone t was navs n u out = IsDroppingIn false p Is Gone t was navs n u out

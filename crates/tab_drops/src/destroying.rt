@@ -1,12 +1,12 @@
 //! Loads of navigables that lost their entries are dropped.
-ghost use Rattle.std.specs.Prelude.{◌≡◌, OnOk};
+ghost use Rattle.std.specs.Prelude.{◌≡◌, OnOk, true};
 ghost use Rattle.seen_facts.specs.LoadEnds.Standing.{LoadsStand};
 ghost use Rattle.seen_laws.specs.InEvent.{now_of};
 ghost use Rattle.tab_doors.specs.Working.{KeepsStore};
 ghost use Rattle.tab_drops.specs.Dropping.{ArePlaced, AreUnheld, EndsLoads, HasOnlyDestroyed, HaveEntries, IsBare, IsDestroyedLoad, LeavesAll, StandOrBare};
 ghost use Rattle.tab_drops.specs.Turns.{IsTurnAt};
 ghost use Rattle.tab_drops.specs.Ways.{bare_load_in};
-ghost use Rattle.tab_moves.specs.PassedOn.{IsPassing};
+ghost use Rattle.tab_moves.specs.PassedOn.{IsPassingIn};
 ghost use Rattle.tab_moves.specs.Moving.{InPass};
 
 use crate::dropping::load_of;
@@ -34,10 +34,10 @@ fn bare_load(tables: &Tables, nav: NavId) -> Option<(ReqId, ReqId)>
 /// The ongoing load of a navigable is dropped, if the navigable has no entry.
 fn destroy_if(tables: &mut Tables, out: &mut Out, nav: NavId) -> Result<(), OutOfMemory>
     ghost p: { InPass }
-    requires passing { IsPassing p out.old tables.old }
+    requires passing { IsPassingIn true p out.old tables.old }
     requires held { AreUnheld p.event (now_of p.event out.old) }
     requires placed { ArePlaced (now_of p.event out.old) }
-    ensures passing { OnOk result (IsPassing p out.new tables.new) }
+    ensures passing { OnOk result (IsPassingIn true p out.new tables.new) }
     ensures turn { OnOk result (IsTurnAt (IsDestroyedLoad (now_of p.event out.old)) (IsBare (now_of p.event out.old)) nav (now_of p.event out.old) (now_of p.event out.new) out.old out.new) }
     ensures kept { OnOk result (KeepsStore tables.old tables.new) }
 {
@@ -51,10 +51,10 @@ fn destroy_if(tables: &mut Tables, out: &mut Out, nav: NavId) -> Result<(), OutO
 /// Each ongoing load of a navigable that has no entry is dropped by the request that took the last ones, in the order of the loads' requests. HTML Standard, "destroy a child navigable".
 pub fn destroy_loads(alloc: Global, tables: &mut Tables, out: &mut Out) -> Result<(), OutOfMemory>
     ghost p: { InPass }
-    requires passing { IsPassing p out.old tables.old }
+    requires passing { IsPassingIn true p out.old tables.old }
     requires held { AreUnheld p.event (now_of p.event out.old) }
     requires placed { ArePlaced (now_of p.event out.old) }
-    ensures passing { OnOk result (IsPassing p out.new tables.new) }
+    ensures passing { OnOk result (IsPassingIn true p out.new tables.new) }
     ensures gone { OnOk result (EndsLoads (IsBare (now_of p.event out.old)) (now_of p.event out.old) (now_of p.event out.new)) }
     ensures entries { OnOk result (HaveEntries (now_of p.event out.new)) }
     ensures loads { OnOk result (StandOrBare (now_of p.event out.old) → LoadsStand (now_of p.event out.new)) }

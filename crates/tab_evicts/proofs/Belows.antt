@@ -234,6 +234,7 @@ module _ (l : InLetting) (gone : StateId) (why : Why) (out : List RowKind) (t : 
           none = subst (λ (x : Seen). NoneBelow x gone) now_is none_then;
           moving = λ m at. record { noted = (so.moving m at).noted; beside = subst (λ (x : Seen). IsBeside x gone m) now_is (beside_then m at); room = room_then m at };
           off = off_gone p move out t so.leaving why so.may doc its its_quiet so.off new u made;
+          free = so.free;
         }
       where
         leaving : IsLeaving p move [] new u

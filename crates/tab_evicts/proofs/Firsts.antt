@@ -307,6 +307,7 @@ module _ (m : InEvicting) (gone : StateId) (why : Why) (out : List RowKind) (t :
         none = subst (λ (x : Seen). NoneBelow x gone) now_is none_then;
         moving = λ x at. (let same : m ≡ x = cc in subst (λ (y : InEvicting). HasRoomBeside y gone (now_of p.event new) u.kept.keep) same (record { noted = to.noted; beside = subst (λ (x : Seen). IsBeside x gone m) now_is beside_then; room = room_then }));
         off = off_gone p (Some move) out t leaving why to.may first.doc gone first_quiet off new u made;
+        free = to.free;
       }
     where
       leaving_now : IsLeaving p (Some move) [] new u

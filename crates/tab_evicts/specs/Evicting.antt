@@ -22,6 +22,7 @@ use Rattle.std.specs.List.{list_any}
 use Rattle.std.specs.Prelude.{Bool, List, None, Option, Some, [], drop, false, if◌then◌else◌, length, option_and_then, option_map, true, ℕ, ◌==◌, ◌∷◌, ◌≡◌, ◌≤◌}
 use Rattle.tab_doors.specs.Keeping.{Move}
 use Rattle.tab_doors.specs.Ties.{nav_in}
+use Rattle.tab_doors.specs.Working.{MayDiscardIn}
 use Rattle.tab_doors.specs.declared.tables.Tables.{Tables}
 use Rattle.tab_ids.specs.declared.DocId.{DocId}
 use Rattle.tab_ids.specs.declared.NavId.{NavId}
@@ -123,6 +124,8 @@ pub record IsLetting (l : InLetting) (gone : StateId) (why : Why) (out : List Ro
   pub moving : (m : InEvicting) → l.moved ≡ Some m → HasRoomBeside m gone (now_of l.pass.event out) t.kept.keep
   -- who isn't shown wasn't as the event began, or is left duly
   pub off : OffAreLeft l.pass.event out why
+  -- no step was in its check as the event began or was cut
+  pub free : MayDiscardIn false l.pass.event
 
 -- the same within a move
 abbrev pub letting_for : InEvicting → InLetting
@@ -187,6 +190,7 @@ pub record IsToEvict (m : InEvicting) (gone : StateId) (why : Why) (s : Seen) (k
   pub were : WereShown s
   pub loads : NoLoadBelow s gone
   pub header : keep ≡ m.pass.event.header.keep
+  pub free : MayDiscardIn false m.pass.event
   pub over : drop keep (left_first m.state (kept_states s)) ≡ gone ∷ []
   pub kept : (gone.0 == m.state.0) ≡ false
   -- the navigable that is moved, and what it leaves

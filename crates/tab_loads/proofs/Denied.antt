@@ -25,7 +25,7 @@ use Rattle.tab_ids.specs.declared.ReqId.{ReqId}
 use Rattle.tab_ids.specs.declared.StateId.{StateId}
 use Rattle.tab_loads.proofs.Firsts.{unjoined}
 use Rattle.tab_loads.specs.Loading.{IsLoadAsk}
-use Rattle.tab_stands.specs.PassedOn.{HasQueue, IsTaking, IsTurning, LateKnown, LoadsMadeOwn, MovedAreShown}
+use Rattle.tab_stands.specs.PassedOn.{HasQueue, IsTaking, IsWaiting, LateKnown, LoadsMadeOwn, MovedAreShown}
 use Rattle.tab_stands.specs.Standing.{HasRoomFor, InCheck, IsQueueing, LastsInLog, StandsFor, seen_start}
 use Rattle.tab_stands.proofs.Accepting.{comes_now, goes_on, new, now, number_low, old_or_new, rests_now}
 use Rattle.tab_stands.proofs.Coming.{IsComing, aim_same, taking_then}
@@ -33,7 +33,7 @@ use Rattle.tab_stands.proofs.Loads.{load_tied}
 use Rattle.tab_stands.proofs.LateEvents.{late_first}
 use Rattle.tab_stands.proofs.MovedEvents.{moved_coming}
 use Rattle.tab_stands.proofs.Waiting.{queued_still, queueing_now}
-use Rattle.tab_turns.proofs.Turned.{turning_first}
+use Rattle.tab_turns.proofs.Turned.{waiting_first}
 use Rattle.tab_facts.proofs.TabWhole.Accepting.{load_accepted_tab}
 use Rattle.tab_facts.proofs.TabWhole.Where.{way_unheld}
 use Rattle.tab_facts.specs.TabWhole.Tab.{IsTab}
@@ -99,8 +99,8 @@ module _ (e : InEvent) (t : Tables) (queue : Queue) (blame : List (StateId × Re
           let never : true ≡ false = sym joined ∙ ap (λ (x : ReqId). has_req (now_of e []).joined x) it.0 ∙ unjoined e req nav mode address asks t.running tab in
           absurd cc
 
-  turning : IsTurning e []
-  turning = turning_first e asks.aside.uncut tab.known early
+  waits : IsWaiting e []
+  waits = waiting_first e asks.aside.uncut tab.known early
 
   queued : HasQueue (now_of e []) t.running queue.waiting
   queued =
@@ -117,5 +117,5 @@ module _ (e : InEvent) (t : Tables) (queue : Queue) (blame : List (StateId × Re
         moved = moved_coming blame (seen_start e) (now_of e []) comes t.running stands.between.tab.asked stands.lasts.moved;
         theirs = comes.theirs;
         duly = logs.duly;
-        queueing = queueing_now e req None load asks.by_user asks.own (next_start e req.0 asks.next) logged.read t queue blame stands asks.aside.uncut (req ∷ check.loads) queue aim turning queued refl;
+        queueing = queueing_now e req None load asks.by_user asks.own (next_start e req.0 asks.next) logged.read t queue blame stands asks.aside.uncut (req ∷ check.loads) queue aim waits queued refl;
       }

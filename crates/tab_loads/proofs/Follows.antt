@@ -1,4 +1,5 @@
 -- A pass may follow once the document of a load that has begun is being made.
+use Rattle.tab_doors.proofs.Works.{none_steps}
 use Rattle.std.specs.List.{list_any}
 use Rattle.log_model.specs.Queue.{is_traverse}
 use Rattle.seen_facts.specs.Asked.Asking.{ArePlain}
@@ -12,7 +13,7 @@ use Rattle.log_model.specs.Seen.{Asked, Document, Place, Seen, document_of, plac
 use Rattle.log_model.specs.declared.job.Job.{Job}
 use Rattle.log_model.specs.declared.row_kind.RowKind.{RowKind}
 use Rattle.seen_facts.proofs.Request.Readers.{SameReads, reads_then}
-use Rattle.seen_laws.specs.InEvent.{now_of, row_of}
+use Rattle.seen_laws.specs.InEvent.{now_of, row_of, log_of}
 use Rattle.std.proofs.Common.{List, None, Option, Some, [], ap, append_assoc, false, inl, inr, refl, subst, sym, ℕ, ◌++◌, ◌+◌, ◌∙◌, ◌∷◌, ◌≡◌, ◌⊎◌, map}
 use Rattle.tab_doors.specs.Orders.{next_order}
 use Rattle.tab_doors.specs.Working.{IsAtWork, KeepsRun, KeepsStore}
@@ -245,6 +246,7 @@ module _ (l : InLoad) (t : Tables) (asked : IsAsked l t) (placed_ : away_in t l.
         header = keep_y ∙ asked.begun.header;
         open_ = taken_last.open_ (whys.Req l.req) causes_last;
         loads = taken_last.loads;
+        frees = λ at_nav place placed need since. none_steps l.event.checking asked.asks.aside.unchecked (log_of l.event []);
         blamed = taken_last.blamed;
         calm = calm_before y.running (whys.Req l.req) (now_of l.event last) taken_last.calm taken_last.unmoved taken_last.rooted;
         late = late_last;

@@ -1,4 +1,5 @@
 -- A pass may follow once the load was refused or dropped, or a document was sent to a fragment for it, by the first row that was put out.
+use Rattle.tab_doors.proofs.Works.{none_steps}
 use Rattle.std.specs.List.{list_any}
 use Rattle.seen_facts.proofs.Coord.Held.{held_alike}
 use Rattle.seen_facts.proofs.Coord.Unread.{next}
@@ -15,7 +16,7 @@ use Rattle.log_model.specs.declared.row_kind.RowKind.{RowKind}
 use Rattle.move_queue.specs.Queue.{Queue}
 use Rattle.seen_facts.proofs.Request.Readers.{SameReads}
 use Rattle.seen_laws.proofs.InEvents.{now_more}
-use Rattle.seen_laws.specs.InEvent.{InEvent, now_of, row_of, GoesThere}
+use Rattle.seen_laws.specs.InEvent.{InEvent, now_of, row_of, GoesThere, log_of}
 use Rattle.std.proofs.Common.{Bool, List, Option, [], ap, false, inl, inr, refl, subst, sym, true, ℕ, ◌||◌, ◌∙◌, ◌∷◌, ◌≡◌, ◌⊎◌, map, ◌++◌}
 use Rattle.tab_doors.specs.declared.tables.Tables.{Tables}
 use Rattle.tab_facts.specs.TabGoing.Going.{IsGoing}
@@ -29,7 +30,7 @@ use Rattle.tab_loads.proofs.Ones.{one_leaves, one_taking}
 use Rattle.tab_loads.specs.Loading.{IsLoadAsk, pass_of}
 use Rattle.tab_passes.specs.Passing.{InPass, IsPassing}
 use Rattle.tab_stands.proofs.Dones.{MayRelease}
-use Rattle.tab_stands.proofs.PassedOn.{IsUnapplied, IsUnmoving, late_put, mades_same, queue_over, shown_put, theirs_over, turning_on}
+use Rattle.tab_stands.proofs.PassedOn.{IsUnapplied, IsUnmoving, late_put, mades_same, queue_over, shown_put, theirs_over, waiting_on}
 use Rattle.tab_stands.proofs.Ready.{calm_before}
 use Rattle.tab_stands.specs.PassedOn.{HasQueue, IsReady, IsTaking, LateKnown, LeavesQueue, LoadsMadeOwn, MovedAreShown}
 use Rattle.tab_stands.specs.Standing.{IsQueueing}
@@ -62,7 +63,7 @@ module _ (e : InEvent) (by : e.actor ≡ actors.Ui) (p one : InPass) (same_p : p
   queueing_here : IsQueueing (record p { event = e }) out u queue
   queueing_here =
       record {
-        turning = turning_on e [] out (inl parked) wishes (λ req joined. ap (λ (l : List ReqId). has_req l req) (sym left.joined) ∙ joined) first.turning;
+        waits = waiting_on e [] out (inl parked) wishes (λ req joined. ap (λ (l : List ReqId). has_req l req) (sym left.joined) ∙ joined) first.waits;
         queued = subst (λ (r : Option ReqId). HasQueue then_ r queue.waiting) (sym run) (queue_over before then_ left t.running queue.waiting first.queued);
         parked = first.parked ∙ sym (held_alike before.requests then_.requests before.parked (mades_same before then_ wishes)) ∙ ap (λ (l : List ReqId). held_back then_.requests l) (sym parked);
         held = λ none. parked ∙ first.held (sym run ∙ none);
@@ -135,6 +136,7 @@ module _ (e : InEvent) (req : ReqId) (nav : NavId) (mode : Mode) (address : List
           header = keep ∙ header;
           open_ = open_now.open_ whys.Start (λ r never. absurd cc);
           loads = open_now.loads;
+          frees = λ at_nav place placed need since. none_steps e.checking asks.aside.unchecked (log_of e []);
           blamed = open_now.blamed;
           calm = calm_before u.running whys.Start (now_of e new) open_now.calm open_now.unmoved open_now.rooted;
           late = late_now;

@@ -2,6 +2,6 @@
 pub use Rattle.tab_passes.specs.PassedOn.{IsTab, count_of, has_ended}
 pub use Rattle.tab_passes.specs.Causes.{MayServe}
 pub use Rattle.tab_passes.specs.Leaving.{IsGoneAt, IsLeaving, left_then, without_all}
-pub use Rattle.tab_passes.specs.Passing.{HasOnly, IsPassing}
+pub use Rattle.tab_passes.specs.Passing.{HasOnly, IsPassing, IsPassingIn}
 pub use Rattle.tab_passes.specs.Sleepers.{is_below_in}
 pub use Rattle.tab_passes.specs.Telling.{HasOnlyTold, IsToldMore, IsUpdateFor, length_index}

@@ -40,7 +40,8 @@ use Rattle.tab_one_pass.proofs.Lefts.{may_leave_left}
 use Rattle.tab_one_pass.specs.Noting.{AreNoted, IsNotedBy, IsToNote, noted_for, noting_in}
 use Rattle.tab_one_pass.specs.Passing.{AreLeftStrays, IsLeftStray, TakersServe}
 use Rattle.tab_serves.specs.PassedOn.{MayServe}
-use Rattle.tab_serves.specs.Serving.{InPass, IsPassing}
+use Rattle.tab_passes.specs.Passing.{IsPassingIn}
+use Rattle.tab_serves.specs.Serving.{InPass}
 use Rattle.tab_sweeps.proofs.Loads.{awake_unloaded, loaded_never, table_unloaded}
 pub use Rattle.tab_sweeps.proofs.Loads.{of_load}
 use Rattle.tab_sweeps.specs.Sweeping.{AreBlamed, IsStray, NoneStray}
@@ -73,7 +74,7 @@ noting_is t by nav state req is = by_parts (load_in nav t.loads) refl (noted_for
 noting_of : (t : Tables) (by : Option ReqId) (nav : NavId) (load : Load) (req : ReqId) → load_in nav t.loads ≡ Some load → noted_for t by nav ≡ Some req → noting_in t by nav ≡ (let one : StateId × ReqId = (load.state, req) in Some one)
 noting_of t by nav load req at noted = rw at (rw noted refl)
 
-module _ (p : InPass) (was : List RowKind) (t : Tables) (pass : IsPassing p was t) where
+module _ {sweeps : Bool} (p : InPass) (was : List RowKind) (t : Tables) (pass : IsPassingIn sweeps p was t) where
   abbrev s : Seen
   s = now_of p.event was
 

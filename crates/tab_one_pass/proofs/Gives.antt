@@ -10,7 +10,7 @@ use Rattle.log_model.specs.Seen.{Seen, Asked, Document, document_of}
 use Rattle.log_model.specs.declared.job.Why.{Why}
 use Rattle.log_model.specs.declared.row_kind.RowKind.{RowKind}
 use Rattle.seen_laws.specs.InEvent.{now_of}
-use Rattle.std.proofs.Common.{true, false, List, None, Option, Some, ap, refl, subst, sym, ◌∙◌, ◌≡◌}
+use Rattle.std.proofs.Common.{true, false, List, None, Option, Some, ap, refl, subst, sym, ◌∙◌, ◌≡◌, ℕ, ◌≤◌}
 use Rattle.std.specs.Prelude.{is_some}
 use Rattle.tab_doors.specs.Working.{KeepsStore}
 use Rattle.tab_doors.specs.declared.tables.Tables.{Tables}
@@ -20,7 +20,7 @@ use Rattle.tab_ids.specs.declared.ReqId.{ReqId}
 use Rattle.tab_ids.specs.declared.StateId.{StateId}
 use Rattle.tab_one_pass.proofs.Calms.{swept_calm, swept_up}
 use Rattle.tab_one_pass.proofs.Dropped.{destroyed_left, moved_blamed}
-use Rattle.tab_one_pass.proofs.Opens.{open_left, open_swept, place_same, swept_orders}
+use Rattle.tab_one_pass.proofs.Opens.{need_was, open_left, open_swept, place_same, swept_orders}
 use Rattle.tab_one_pass.proofs.Orphans.{stray_sent}
 use Rattle.tab_one_pass.proofs.Passes.{left_drops, left_then, loaded_before, swept_left}
 use Rattle.tab_one_pass.proofs.Stands.{rows_swept, stand_swept}
@@ -30,8 +30,10 @@ pub use Rattle.tab_one_pass.proofs.Opens.{still_left, still_on}
 pub use Rattle.tab_serves.proofs.Leavers.{load_leaver, run_leaver, run_leavers}
 pub use Rattle.tab_serves.proofs.PassedOn.{show_causes}
 use Rattle.tab_serves.specs.PassedOn.{MayServe, IsTab}
-use Rattle.tab_serves.specs.Serving.{HasOnly, InPass, IsOfWalk, IsPassing, MayCause, show_why, KeepsUp}
+use Rattle.tab_serves.specs.Serving.{FreesVisited, HasOnly, InPass, IsOfWalk, IsPassing, MayCause, show_why, KeepsUp}
+use Rattle.tab_passes.specs.Passing.{IsPassingIn}
 use Rattle.tab_serves.proofs.Orders.{IsOrderOf}
+use Rattle.tab_sweeps.proofs.ForCallers.{need_before}
 use Rattle.tab_sweeps.specs.Sweeping.{AreBlamed, HasOnlySwept, IsSweptTurn, NoneStray}
 
 module _ (p : InPass) (out : List RowKind) (t : Tables) (pass : IsPassing p out t) (cause : Why) (so : IsOpen p.event t.running cause (now_of p.event out)) where
@@ -60,6 +62,10 @@ module _ (p : InPass) (out : List RowKind) (t : Tables) (pass : IsPassing p out 
         pub moved_left : LeavesPass s (now_of p.event new)
         moved_left = left_drops s (now_of p.event new) left
 
+        pub moved_frees : FreesVisited p.event s → FreesVisited p.event (now_of p.event new)
+        moved_frees frees nav place at need epoch =
+            frees nav place (sym (place_same s (now_of p.event new) left.places left.history left.aim nav) ∙ at) (need_was s (now_of p.event new) left.places left.history left.aim place need) epoch
+
         pub moved_only : HasOnlyDroppedBy s by (IsUnsettled s) out new → HasGivenWay s t.running out new
         moved_only only = subst (λ (r : Option ReqId). HasGivenWay s r out new) (sym runs) only
 
@@ -72,7 +78,7 @@ module _ (p : InPass) (out : List RowKind) (t : Tables) (pass : IsPassing p out 
 
   -- ---- what is stray goes
 
-  module _ (stand : StandOrBare s) (blame : List (StateId × ReqId)) (m : Tables) (mid : List RowKind) (swept_pass : IsPassing p mid m) (swept : NoneStray (now_of p.event mid)) (only : HasOnlySwept (now_of p.event out) blame out mid) (turn : IsSweptTurn (now_of p.event out) (now_of p.event mid)) (kept : KeepsStore t m) where
+  module _ (stand : StandOrBare s) (blame : List (StateId × ReqId)) (m : Tables) (mid : List RowKind) (swept_pass : IsPassingIn true p mid m) (swept : NoneStray (now_of p.event mid)) (only : HasOnlySwept (now_of p.event out) blame out mid) (turn : IsSweptTurn (now_of p.event out) (now_of p.event mid)) (kept : KeepsStore t m) where
     abbrev y : Seen
     y = now_of p.event mid
 
@@ -97,7 +103,7 @@ module _ (p : InPass) (out : List RowKind) (t : Tables) (pass : IsPassing p out 
     mid_rows : AreAwakeWithRows y
     mid_rows = rows_swept t.running p.loads p.hand s y pass.going.tab tab_then turn swept
 
-    pub destroy_asks : IsPassing p mid m × (AreUnheld p.event y × ArePlaced y)
+    pub destroy_asks : IsPassingIn true p mid m × (AreUnheld p.event y × ArePlaced y)
     destroy_asks = (swept_pass, (mid_open.held, tab_placed t.running p.loads p.hand y tab_then))
 
     module _ (u : Tables) (new : List RowKind) (ends : EndsLoads (IsBare (now_of p.event mid)) (now_of p.event mid) (now_of p.event new)) (left : LeavesAll (now_of p.event mid) (now_of p.event new)) (keeps : KeepsStore m u) where
@@ -110,6 +116,12 @@ module _ (p : InPass) (out : List RowKind) (t : Tables) (pass : IsPassing p out 
       pub cleared_open : IsOpen p.event u.running cause x
       cleared_open =
           subst (λ (r : Option ReqId). IsOpen p.event r cause x) (sym (keeps.running ∙ kept.running)) last_open
+
+      -- who is visited in need, and was shown a document before, was so before
+      pub cleared_frees : FreesVisited p.event s → FreesVisited p.event x
+      cleared_frees frees nav place at need epoch =
+          let was = need_before t.running p.loads p.hand s y pass.going.tab tab_then turn swept nav place (sym (place_same y x left.places left.history left.aim nav) ∙ at) (need_was y x left.places left.history left.aim place need) in
+          frees nav was.old was.there was.need (subst (λ (n : ℕ). 1 ≤ n) was.epoch epoch)
 
       pub cleared_loads : (StandOrBare y → LoadsStand x) → LoadsStand x
       cleared_loads loads = loads mid_stand

@@ -9,6 +9,7 @@ pub mod Calms
 pub mod Passes
 pub mod Orphans
 pub mod Gives
+pub mod Resumes
 pub mod Wholes
 pub mod PassedOn
 pub mod Lives

@@ -56,7 +56,7 @@ module _ (s t : Seen) (places : t.places ≡ s.places) (history : t.history ≡ 
   pub place_same : (nav : NavId) → place_of t nav ≡ place_of s nav
   place_same nav = ap (λ (l : List Place). place_in l nav) places
 
-  need_was : (place : Place) → IsVisitedInNeed t place → IsVisitedInNeed s place
+  pub need_was : (place : Place) → IsVisitedInNeed t place → IsVisitedInNeed s place
   need_was place need = visited_same t s (sym places) (sym history) (sym aim) place need
 
 -- who was awake as the event began is so still, where who is awake stays so, and what is discarded

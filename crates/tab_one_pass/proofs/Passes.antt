@@ -36,7 +36,7 @@ use Rattle.tab_one_pass.specs.Passing.{AreLeftStrays, HasPassed, IsLeftStray, Is
 pub use Rattle.tab_serves.proofs.PassedOn.{goes_on}
 use Rattle.tab_serves.proofs.Calms.{only_as}
 use Rattle.tab_serves.proofs.Ups.{up_places, up_then}
-use Rattle.tab_serves.specs.Serving.{HasOnly, HasOnlyServed, HasWalked, IsOfWalk, KeepsUp, LeavesLog, MayCause, MayWalk, StillAwake}
+use Rattle.tab_serves.specs.Serving.{FreesVisited, HasOnly, HasOnlyServed, HasWalked, IsOfWalk, KeepsUp, LeavesLog, MayCause, MayWalk, StillAwake}
 use Rattle.tab_serves.specs.PassedOn.{HasOnlyTold, IsToldMore, IsUpdateFor}
 use Rattle.tab_serves.proofs.Orders.{IsOrderOf, taken_over, walk_orders, walk_quiet, tells_quiet}
 pub use Rattle.tab_drops.proofs.Turns.{reached_same}
@@ -187,8 +187,8 @@ left_blamed s blame with_rows own left doc state stray =
 
 -- ---- the walk
 
-pub may_walk : (e : InEvent) (run : Option ReqId) (keep : ℕ) (cause : Why) (s : Seen) → IsOpen e run cause s → AreAwakeWithRows s → LoadsStand s → keep ≡ e.header.keep → MayWalk e run keep cause s
-may_walk e run keep cause s so with_rows stand header =
+pub may_walk : (e : InEvent) (run : Option ReqId) (keep : ℕ) (cause : Why) (s : Seen) → IsOpen e run cause s → AreAwakeWithRows s → LoadsStand s → keep ≡ e.header.keep → FreesVisited e s → MayWalk e run keep cause s
+may_walk e run keep cause s so with_rows stand header frees =
     record {
       may = so.may;
       since = so.since;
@@ -196,6 +196,7 @@ may_walk e run keep cause s so with_rows stand header =
       still = so.still;
       moves = so.moves;
       leavers = so.leavers;
+      frees = frees;
       rows_ = with_rows;
       were = so.were;
       parents = so.parents;

@@ -19,7 +19,7 @@ use Rattle.tab_one_pass.proofs.Passes.{any_orders, left_then, loaded_before, may
 use Rattle.tab_one_pass.proofs.Sents.{strays_over}
 use Rattle.tab_one_pass.specs.Passing.{AreLeftStrays, HasClearedOut, HasGivenWay, HasPassed, HasPutOut, IsOpen, LeavesPass, SendsForStrays, WereLoaded}
 use Rattle.tab_serves.proofs.Orders.{walk_orders}
-use Rattle.tab_serves.specs.Serving.{HasOnlyServed, HasWalked, InPass, IsPassing, LeavesLog, MayWalk}
+use Rattle.tab_serves.specs.Serving.{FreesVisited, HasOnlyServed, HasWalked, InPass, IsPassing, LeavesLog, MayWalk}
 use Rattle.tab_serves.specs.PassedOn.{HasOnlyTold, IsToldMore}
 use Rattle.seen_facts.specs.Walk.Serving.{AreServed, IsServed}
 
@@ -49,9 +49,9 @@ module _ (p : InPass) (cause tells : Why) (t m : Tables) (was given cleared : Li
     running : u.running ≡ t.running
     running = kept_cleared.running ∙ kept_given.running
 
-    pub walk_asks : AreAwakeWithRows mid → LoadsStand mid → t.kept.keep ≡ p.event.header.keep → MayWalk p.event u.running u.kept.keep cause mid
-    walk_asks with_rows stand header =
-        may_walk p.event u.running u.kept.keep cause mid so with_rows stand (kept_cleared.keep ∙ kept_given.keep ∙ header)
+    pub walk_asks : AreAwakeWithRows mid → LoadsStand mid → t.kept.keep ≡ p.event.header.keep → FreesVisited p.event mid → MayWalk p.event u.running u.kept.keep cause mid
+    walk_asks with_rows stand header frees =
+        may_walk p.event u.running u.kept.keep cause mid so with_rows stand (kept_cleared.keep ∙ kept_given.keep ∙ header) frees
 
     module _ (v w : Tables) (served out : List RowKind) (serves : HasOnlyServed u.running cause cleared served) (log : LeavesLog (now_of p.event cleared) (now_of p.event served)) (only : HasOnlyTold tells served out) (more : IsToldMore (now_of p.event served) (now_of p.event out)) (passing : IsPassing p out w) where
       abbrev asked : ArePlain w.running (now_of p.event out)

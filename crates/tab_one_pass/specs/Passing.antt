@@ -14,15 +14,19 @@ use Rattle.log_model.specs.declared.job.Why.{Why}
 use Rattle.log_model.specs.declared.row_kind.RowKind.{RowKind}
 use Rattle.nav_tree.specs.Tree.{is_state}
 use Rattle.seen_facts.proofs.Request.Readers.{SameReads}
+use Rattle.seen_facts.specs.LoadEnds.Standing.{LoadsStand}
 use Rattle.seen_laws.specs.InEvent.{InEvent, now_of}
 use Rattle.std.specs.Map.{lookup}
-use Rattle.std.specs.Prelude.{List, None, Option, Some, [], false, is_some, true, ℕ, ◌++◌, ◌∷◌, ◌≡◌}
+use Rattle.std.specs.Prelude.{Bool, List, None, Option, Some, [], false, is_some, length, true, ℕ, ◌++◌, ◌<◌, ◌∷◌, ◌≡◌, ◌⊎◌}
 pub use Rattle.tab_drops.specs.Dropping.{AreUnheld, HasOnlyDestroyed, HasOnlyDroppedBy, IsBare, IsLoadOf, IsUnsettled, StandOrBare, StandOrMove}
+use Rattle.tab_doors.specs.Working.{KeepsStore}
+use Rattle.tab_doors.specs.declared.tables.Tables.{Tables}
 use Rattle.tab_ids.specs.declared.DocId.{DocId}
 use Rattle.tab_ids.specs.declared.NavId.{NavId}
 use Rattle.tab_ids.specs.declared.ReqId.{ReqId}
 use Rattle.tab_ids.specs.declared.StateId.{StateId}
-use Rattle.tab_serves.specs.Serving.{HasOnlyServed, HasWalked, IsSince, KeepsUp}
+use Rattle.tab_passes.specs.Passing.{InPass, IsPassingIn}
+use Rattle.tab_serves.specs.Serving.{FreesVisited, HasOnlyServed, HasWalked, IsSince, KeepsUp}
 pub use Rattle.tab_serves.specs.PassedOn.{MayServe}
 pub use Rattle.tab_serves.specs.Serving.{LeavesVisited, StillAwake, MayCause, ParentsShown, show_why}
 use Rattle.tab_serves.specs.PassedOn.{HasOnlyTold}
@@ -160,3 +164,23 @@ pub record LeavesCalm (run : Option ReqId) (s t : Seen) : Type 0 where
   pub around : (at : NavId) → CalmUnless (λ (x : Seen). IsCalmAround x at) run s → CalmUnless IsCalm run t
   pub rooted : AreRooted s → AreRooted t
   pub unmoved : (req : ReqId) → run ≡ Some req → UnmovedAreHere s → UnmovedAreHere t
+
+-- ---- where it waits
+
+-- the walk may come: no request is in its check, a traversal runs, or nothing was put out since there were so many rows
+abbrev pub MayGoOn : Bool → Bool → List RowKind → ℕ → Type 0
+MayGoOn asks runs out before = (asks ≡ false) ⊎ ((runs ≡ true) ⊎ (length out ≡ before))
+
+-- no traversal runs and the walk waits, since documents may have been discarded that were asked: what goes on until it, and all that was put out, which is something
+pub record HasPaused (p : InPass) (cause tells : Why) (t : Tables) (was out : List RowKind) (u : Tables) (blame : List (StateId × ReqId)) : Type 0 where
+  pub idle : t.running ≡ None
+  pub passing : IsPassingIn true p out u
+  pub open_ : IsOpen p.event u.running cause (now_of p.event out)
+  pub loads : LoadsStand (now_of p.event out)
+  pub strays : AreLeftStrays (now_of p.event out) blame
+  pub rows_ : AreAwakeWithRows (now_of p.event out)
+  pub frees : FreesVisited p.event (now_of p.event out)
+  pub left : LeavesPass (now_of p.event was) (now_of p.event out)
+  pub only : HasPutOut p.event t.running cause tells was out
+  pub grown : length was < length out
+  pub kept : KeepsStore t u

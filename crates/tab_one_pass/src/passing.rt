@@ -1,13 +1,14 @@
 //! One pass: ongoing loads give way, stray documents are discarded, who needs it is served, who is awake is told.
-ghost use Rattle.std.specs.Prelude.{◌≡◌, OnOk, true};
+ghost use Rattle.std.specs.Prelude.{◌≡◌, IfOk, OnOk, false, length, true};
 ghost use Rattle.tab_facts.specs.FrameWhole.Tab.{AreAwakeWithRows};
 ghost use Rattle.seen_facts.specs.LoadEnds.Standing.{LoadsStand};
 ghost use Rattle.log_model.specs.ActsAtOnce.{ends_told};
 ghost use Rattle.seen_laws.specs.InEvent.{now_of};
-ghost use Rattle.tab_doors.specs.Working.{KeepsStore};
+ghost use Rattle.tab_doors.specs.Working.{KeepsStore, MayDiscardIn};
 ghost use Rattle.tab_drops.specs.Dropping.{StandOrBare};
-ghost use Rattle.tab_one_pass.specs.Passing.{AreLeftStrays, HasClearedOut, HasGivenWay, HasPassed, HasPutOut, IsOpen, LeavesCalm, LeavesPass, MayPass, MayStand, SendsForStrays, WereLoaded};
-ghost use Rattle.tab_serves.specs.Serving.{InPass, IsPassing};
+ghost use Rattle.tab_one_pass.specs.Passing.{AreLeftStrays, HasClearedOut, HasGivenWay, HasPassed, HasPaused, HasPutOut, IsOpen, LeavesCalm, LeavesPass, MayGoOn, MayPass, MayStand, SendsForStrays, WereLoaded};
+ghost use Rattle.tab_serves.specs.Serving.{FreesVisited, InPass, IsPassing};
+ghost use Rattle.tab_passes.specs.Passing.{IsPassingIn};
 ghost use Rattle.tab_sweeps.specs.Sweeping.{AreBlamed};
 ghost use Rattle.seen_facts.specs.Walk.Serving.{AreServed};
 
@@ -40,6 +41,7 @@ fn give_way(
     ensures open_ { OnOk result (IsOpen p.event tables.new.running cause (now_of p.event out.new)) }
     ensures loads { OnOk result (StandOrBare (now_of p.event out.new)) }
     ensures blamed { OnOk result (AreBlamed (now_of p.event out.new) blame.new.entries) }
+    ensures frees { OnOk result (FreesVisited p.event (now_of p.event out.old) → FreesVisited p.event (now_of p.event out.new)) }
     ensures left { OnOk result (LeavesPass (now_of p.event out.old) (now_of p.event out.new)) }
     ensures only { OnOk result (HasGivenWay (now_of p.event out.old) tables.old.running out.old out.new) }
     ensures kept { OnOk result (KeepsStore tables.old tables.new) }
@@ -67,7 +69,8 @@ fn clear_out(
     requires open_ { IsOpen p.event tables.old.running cause (now_of p.event out.old) }
     requires loads { StandOrBare (now_of p.event out.old) }
     requires blamed { AreBlamed (now_of p.event out.old) blame.old.entries }
-    ensures passing { OnOk result (IsPassing p out.new tables.new) }
+    ensures passing { OnOk result (IsPassingIn true p out.new tables.new) }
+    ensures frees { OnOk result (FreesVisited p.event (now_of p.event out.old) → FreesVisited p.event (now_of p.event out.new)) }
     ensures open_ { OnOk result (IsOpen p.event tables.new.running cause (now_of p.event out.new)) }
     ensures loads { OnOk result (LoadsStand (now_of p.event out.new)) }
     ensures strays { OnOk result (AreLeftStrays (now_of p.event out.new) blame.new.entries) }
@@ -85,7 +88,23 @@ fn clear_out(
     Ok(())
 }
 
-/// One pass over the tab: where a traversal runs, the ongoing loads of those whom it moves give way to it; stray documents are discarded, each for the request that is noted in `blame` for its state, and loads of navigables without an entry dropped; each navigable that needs it is shown its target, or has its document made; and who is awake is told the length and index that are due. `cause` is what orders are for that show or make documents where no traversal runs, and `tells` what those are for that tell. HTML Standard, "apply the history step".
+/// Whether the walk may come: no request is in its check, a traversal runs, or no row was put out since there were so many.
+fn may_go_on(asks: bool, runs: bool, out: &Out, before: usize) -> bool
+    ensures goes { result ≡ true → MayGoOn asks runs out.now before }
+    ensures idle { result ≡ false → runs ≡ false }
+    ensures asks { result ≡ false → asks ≡ true }
+    ensures grown { result ≡ false → (length out.now ≡ before) → ⊥ }
+{
+    if !asks {
+        return true;
+    }
+    if runs {
+        return true;
+    }
+    out.len() == before
+}
+
+/// One pass over the tab: where a traversal runs, the ongoing loads of those whom it moves give way to it; stray documents are discarded, each for the request that is noted in `blame` for its state, and loads of navigables without an entry dropped; each navigable that needs it is shown its target, or has its document made; and who is awake is told the length and index that are due. Where a request is in its check (`asks`), no traversal runs and something was discarded or dropped, it waits before the walk: answers whether it went on. `cause` is what orders are for that show or make documents where no traversal runs, and `tells` what those are for that tell. HTML Standard, "apply the history step".
 pub fn pass(
     alloc: Global,
     header: &Header,
@@ -94,27 +113,36 @@ pub fn pass(
     out: &mut Out,
     cause: Why,
     tells: Why,
-) -> Result<(), OutOfMemory>
+    asks: bool,
+) -> Result<bool, OutOfMemory>
     ghost p: { InPass }
     requires passing { IsPassing p out.old tables.old }
     requires header { header.now ≡ p.event.header }
     requires may { MayPass p.event tables.old.running tables.old.kept.keep cause (now_of p.event out.old) }
     requires blamed { AreBlamed (now_of p.event out.old) blame.old.entries }
-    ensures passing { OnOk result (IsPassing p out.new tables.new) }
-    ensures served { OnOk result (AreServed (now_of p.event out.new)) }
-    ensures told { OnOk result (ends_told (now_of p.event out.new) ≡ true) }
-    ensures strays { OnOk result (AreLeftStrays (now_of p.event out.new) blame.new.entries) }
-    ensures loaded { OnOk result (WereLoaded (now_of p.event out.old) (now_of p.event out.new)) }
-    ensures sent { OnOk result (SendsForStrays (now_of p.event out.old) (now_of p.event out.new) out.old out.new) }
-    ensures passed { OnOk result (HasPassed p.event (now_of p.event out.new)) }
-    ensures left { OnOk result (LeavesPass (now_of p.event out.old) (now_of p.event out.new)) }
-    ensures calm { OnOk result (LeavesCalm tables.old.running (now_of p.event out.old) (now_of p.event out.new)) }
-    ensures only { OnOk result (HasPutOut p.event tables.old.running cause tells out.old out.new) }
+    requires frees { FreesVisited p.event (now_of p.event out.old) }
+    requires bare { asks ≡ false → MayDiscardIn false p.event }
+    ensures passing { IfOk result (λ went. went ≡ true → IsPassing p out.new tables.new) }
+    ensures served { IfOk result (λ went. went ≡ true → AreServed (now_of p.event out.new)) }
+    ensures told { IfOk result (λ went. went ≡ true → ends_told (now_of p.event out.new) ≡ true) }
+    ensures strays { IfOk result (λ went. went ≡ true → AreLeftStrays (now_of p.event out.new) blame.new.entries) }
+    ensures loaded { IfOk result (λ went. went ≡ true → WereLoaded (now_of p.event out.old) (now_of p.event out.new)) }
+    ensures sent { IfOk result (λ went. went ≡ true → SendsForStrays (now_of p.event out.old) (now_of p.event out.new) out.old out.new) }
+    ensures passed { IfOk result (λ went. went ≡ true → HasPassed p.event (now_of p.event out.new)) }
+    ensures left { IfOk result (λ went. went ≡ true → LeavesPass (now_of p.event out.old) (now_of p.event out.new)) }
+    ensures calm { IfOk result (λ went. went ≡ true → LeavesCalm tables.old.running (now_of p.event out.old) (now_of p.event out.new)) }
+    ensures only { IfOk result (λ went. went ≡ true → HasPutOut p.event tables.old.running cause tells out.old out.new) }
+    ensures asked { IfOk result (λ went. went ≡ false → asks ≡ true) }
+    ensures paused { IfOk result (λ went. went ≡ false → HasPaused p cause tells tables.old out.old out.new tables.new blame.new.entries) }
     ensures kept { OnOk result (KeepsStore tables.old tables.new) }
 {
     give_way(alloc, tables, blame, out, cause)?;
+    let before = out.len();
     clear_out(alloc, tables, blame, out, cause)?;
+    if !may_go_on(asks, tables.running.is_some(), out, before) {
+        return Ok(false);
+    }
     serve_all(alloc, header, tables, out, cause)?;
     tell_all(alloc, tables, out, tells)?;
-    Ok(())
+    Ok(true)
 }

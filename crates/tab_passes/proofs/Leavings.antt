@@ -17,13 +17,13 @@ use Rattle.seen_facts.specs.Asked.Asking.{HavePassed}
 use Rattle.row_facts.proofs.RestRows.Orders.{discarded_less, frozen_less}
 use Rattle.row_facts.specs.RestRows.Moving.{RestBut}
 use Rattle.seen_laws.specs.InEvent.{InEvent, now_of, row_of}
-use Rattle.std.proofs.Common.{List, None, Option, Some, [], length, refl, subst, sym, true, ℕ, ◌++◌, ◌+◌, ◌∙◌, ◌∷◌, ◌≡◌, ◌≤◌, ap}
+use Rattle.std.proofs.Common.{Bool, List, None, Option, Some, [], length, refl, subst, sym, true, ℕ, ◌++◌, ◌+◌, ◌∙◌, ◌∷◌, ◌≡◌, ◌≤◌, ap}
 use Rattle.tab_doors.proofs.Whose.{proc_found}
 use Rattle.tab_doors.proofs.Ahead.{begin_move}
 use Rattle.tab_doors.specs.PassedOn.{noted_by}
 use Rattle.tab_doors.specs.Keeping.{Move, with_left}
 use Rattle.tab_doors.specs.Orders.{order_to}
-use Rattle.tab_doors.specs.Working.{IsAtWork, IsAtWorkFor, KeepsStore}
+use Rattle.tab_doors.specs.Working.{IsAtWork, IsAtWorkFor, IsAtWorkIn, KeepsStore}
 use Rattle.tab_doors.specs.declared.tables.Tables.{Tables}
 pub use Rattle.tab_facts.proofs.TabGoing.Rows.{sent_going}
 use Rattle.tab_facts.specs.TabGoing.Going.{IsGoing}
@@ -31,19 +31,19 @@ use Rattle.tab_ids.specs.declared.DocId.{DocId}
 use Rattle.tab_ids.specs.declared.Epoch.{Epoch}
 use Rattle.tab_ids.specs.declared.ReqId.{ReqId}
 use Rattle.tab_ids.specs.declared.StateId.{StateId}
-use Rattle.tab_passes.specs.Leaving.{IsLeaving, MayLeave, left_then}
-use Rattle.tab_passes.specs.Passing.{InPass, IsPassing}
+use Rattle.tab_passes.specs.Leaving.{IsLeaving, IsLeavingIn, MayLeave, left_then}
+use Rattle.tab_passes.specs.Passing.{InPass, IsPassing, IsPassingIn}
 pub use Rattle.tab_facts.proofs.TabGoing.PassedOn.{IsShowOf, IsToMade, sent_home}
 use Rattle.log_model.specs.declared.job.Task.TheVariants as tasks
 use Rattle.log_model.specs.declared.row_kind.RowKind.TheVariants as rows
 
 -- ---- between two moves
 
-pub leaving_none : (p : InPass) (out : List RowKind) (t : Tables) → IsPassing p out t → IsLeaving p None [] out t
+pub leaving_none : {sweeps : Bool} (p : InPass) (out : List RowKind) (t : Tables) → IsPassingIn sweeps p out t → IsLeavingIn sweeps p None [] out t
 leaving_none p out t pass = record { work = pass.work; going = pass.going; owed = pass.owed; rests = pass.rests; duly = pass.duly }
 
 -- all is as it was, where what is owed is paid and no more are kept than may be
-pub passing_again : (p : InPass) (out : List RowKind) (t : Tables) → IsLeaving p None [] out t → (all_stand (now_of p.event out) (aim_of (now_of p.event out)) ≡ true → IsLoose p.event out) → length (now_of p.event out).kept ≤ t.kept.keep → IsPassing p out t
+pub passing_again : {sweeps : Bool} (p : InPass) (out : List RowKind) (t : Tables) → IsLeavingIn sweeps p None [] out t → (all_stand (now_of p.event out) (aim_of (now_of p.event out)) ≡ true → IsLoose p.event out) → length (now_of p.event out).kept ≤ t.kept.keep → IsPassingIn sweeps p out t
 passing_again p out t leaving loose few =
     record { work = leaving.work; going = leaving.going; owed = leaving.owed; loose = loose; rests = leaving.rests; few = few; duly = leaving.duly }
 
@@ -60,6 +60,7 @@ begun_work e out t doc left states work is =
       sole = work.sole;
       debts = work.debts;
       checks = work.checks;
+      calm = work.calm;
       unheld = work.unheld;
       holds = record {
         navs = work.holds.navs;
@@ -89,7 +90,7 @@ begun_leaving p out t doc left states pass is =
 
 -- ---- a document is left
 
-module _ (p : InPass) (move : Option Move) (docs : List DocId) (out : List RowKind) (t : Tables) (leaving : IsLeaving p move docs out t) (doc : DocId) (why : Why) (may : MayLeave (now_of p.event out) doc why) where
+module _ {sweeps : Bool} (p : InPass) (move : Option Move) (docs : List DocId) (out : List RowKind) (t : Tables) (leaving : IsLeavingIn sweeps p move docs out t) (doc : DocId) (why : Why) (may : MayLeave (now_of p.event out) doc why) where
   abbrev s : Seen
   s = now_of p.event out
 
@@ -122,10 +123,10 @@ module _ (p : InPass) (move : Option Move) (docs : List DocId) (out : List RowKi
   frozen_rests =
       frozen_less s p.event.event p.event.actor docs leaving.rests freeze (sent_home t.running p.loads p.hand s leaving.going.tab freeze may.document to_freeze) refl
 
-  pub frozen_leaving : (u : Tables) (new : List RowKind) → new ≡ out ++ rows.Sent freeze ∷ [] → KeepsStore t u → IsAtWorkFor move p.event new u → IsLeaving p move (left_then s doc docs) new u
+  pub frozen_leaving : (u : Tables) (new : List RowKind) → new ≡ out ++ rows.Sent freeze ∷ [] → KeepsStore t u → IsAtWorkIn sweeps move p.event new u → IsLeavingIn sweeps p move (left_then s doc docs) new u
   frozen_leaving u new is keeps work =
-      subst (λ (l : List RowKind). IsLeaving p move (left_then s doc docs) l u) (sym is) (record {
-        work = subst (λ (l : List RowKind). IsAtWorkFor move p.event l u) is work;
+      subst (λ (l : List RowKind). IsLeavingIn sweeps p move (left_then s doc docs) l u) (sym is) (record {
+        work = subst (λ (l : List RowKind). IsAtWorkIn sweeps move p.event l u) is work;
         going = subst (λ (x : Seen). IsGoing u.running p.loads p.hand x) now_is (subst (λ (r : Option ReqId). IsGoing r p.loads p.hand frozen) (sym keeps.running) frozen_going);
         owed = frozen_owed;
         rests = subst (λ (x : Seen). RestBut (left_then s doc docs) x) now_is frozen_rests;
@@ -158,10 +159,10 @@ module _ (p : InPass) (move : Option Move) (docs : List DocId) (out : List RowKi
   gone_rests =
       discarded_less s p.event.event p.event.actor docs leaving.rests discard (sent_home t.running p.loads p.hand s leaving.going.tab discard may.document to_discard) refl
 
-  pub gone_leaving : (u : Tables) (new : List RowKind) → new ≡ out ++ rows.Sent discard ∷ [] → KeepsStore t u → IsAtWorkFor move p.event new u → IsLeaving p move (left_then s doc docs) new u
+  pub gone_leaving : (u : Tables) (new : List RowKind) → new ≡ out ++ rows.Sent discard ∷ [] → KeepsStore t u → IsAtWorkIn sweeps move p.event new u → IsLeavingIn sweeps p move (left_then s doc docs) new u
   gone_leaving u new is keeps work =
-      subst (λ (l : List RowKind). IsLeaving p move (left_then s doc docs) l u) (sym is) (record {
-        work = subst (λ (l : List RowKind). IsAtWorkFor move p.event l u) is work;
+      subst (λ (l : List RowKind). IsLeavingIn sweeps p move (left_then s doc docs) l u) (sym is) (record {
+        work = subst (λ (l : List RowKind). IsAtWorkIn sweeps move p.event l u) is work;
         going = subst (λ (x : Seen). IsGoing u.running p.loads p.hand x) now_is (subst (λ (r : Option ReqId). IsGoing r p.loads p.hand gone) (sym keeps.running) gone_going);
         owed = gone_owed;
         rests = subst (λ (x : Seen). RestBut (left_then s doc docs) x) now_is gone_rests;

@@ -3,7 +3,7 @@ use Rattle.log_model.specs.AfterPlaces.{sleepers_with}
 use Rattle.log_model.specs.History.{has_nav}
 use Rattle.nav_tree.specs.Tree.{discarded}
 use Rattle.seen_laws.specs.InEvent.{now_of}
-use Rattle.std.proofs.Common.{List, Option, ap, subst, sym, ◌∙◌, ◌≡◌}
+use Rattle.std.proofs.Common.{Bool, List, Option, ap, subst, sym, ◌∙◌, ◌≡◌}
 use Rattle.tab_doors.specs.Keeping.{Move}
 use Rattle.tab_doors.specs.Orders.{IsToGo}
 use Rattle.tab_doors.specs.Sleeping.{AreThere}
@@ -13,11 +13,11 @@ use Rattle.tab_ids.specs.declared.DocId.{DocId}
 use Rattle.tab_ids.specs.declared.NavId.{NavId}
 use Rattle.tab_ids.specs.declared.StateId.{StateId}
 use Rattle.tab_passes.proofs.Sleepers.{sleepers_same, sleepers_there}
-use Rattle.tab_passes.specs.Leaving.{IsGoneAt, IsLeaving}
+use Rattle.tab_passes.specs.Leaving.{IsGoneAt, IsLeavingIn}
 use Rattle.tab_passes.specs.Passing.{InPass}
 use Rattle.tab_passes.specs.Sleepers.{sleepers_in}
 
-module _ (p : InPass) (move : Option Move) (docs : List DocId) (out : List RowKind) (t : Tables) (leaving : IsLeaving p move docs out t) (doc : DocId) (navs : List NavId) (is : navs ≡ sleepers_in t.tree doc) where
+module _ {sweeps : Bool} (p : InPass) (move : Option Move) (docs : List DocId) (out : List RowKind) (t : Tables) (leaving : IsLeavingIn sweeps p move docs out t) (doc : DocId) (navs : List NavId) (is : navs ≡ sleepers_in t.tree doc) where
   pub sleepers_are : (other : NavId) → has_nav (sleepers_with (now_of p.event out) doc) other ≡ has_nav navs other
   sleepers_are other =
       ap (λ (l : List NavId). has_nav l other) (sleepers_same (now_of p.event out) t.running t leaving.work.holds leaving.going.tab.sound leaving.going.tab.hangs doc ∙ sym is)

@@ -7,6 +7,7 @@ pub mod Untold
 pub mod Tells
 pub mod Passings
 pub mod Leavings
+pub mod Sweeps
 pub mod Sleeps
 pub mod Sleepers
 pub mod Lefts

@@ -14,7 +14,7 @@ use Rattle.std.proofs.Common.{Bool, List, None, Option, Some, ap, false, refl, s
 use Rattle.std.specs.Prelude.{is_some}
 use Rattle.tab_doors.specs.Keeping.{Move}
 use Rattle.tab_doors.specs.Orders.{IsForOther}
-use Rattle.tab_doors.specs.Working.{IsAtWorkFor}
+use Rattle.tab_doors.specs.Working.{IsAtWorkIn}
 use Rattle.tab_doors.specs.declared.tables.Tables.{Tables}
 use Rattle.tab_ids.specs.declared.ReqId.{ReqId}
 use Rattle.tab_passes.specs.Causes.{HasSetOut, MayCause, MayServe}
@@ -41,7 +41,7 @@ none_out q unstarted unsent out what = by_load (is_load q.what) (is_traversal q.
         absurd cc
     by_load false false c load goes reload = reload
 
-module _ {move : Option Move} (e : InEvent) (out : List RowKind) (t : Tables) (work : IsAtWorkFor move e out t) (each : EachAsked IsAskedPlainly (now_of e out).requests) where
+module _ {sweeps : Bool} {move : Option Move} (e : InEvent) (out : List RowKind) (t : Tables) (work : IsAtWorkIn sweeps move e out t) (each : EachAsked IsAskedPlainly (now_of e out).requests) where
   abbrev n : Seen
   n = now_of e out
 

@@ -22,10 +22,10 @@ use Rattle.nav_tree.specs.declared.place.Place as live_place
 use Rattle.row_facts.specs.RestRows.Left.{left_below}
 use Rattle.row_facts.specs.RestRows.Moving.{RestBut}
 use Rattle.seen_laws.specs.InEvent.{InEvent, log_of, now_of}
-use Rattle.std.specs.Prelude.{ℕ, List, None, Option, Some, false, map, option_map, true, ◌++◌, ◌==◌, ◌||◌, ◌≡◌, ◌⊎◌, [], fold, ◌∷◌, take, drop, length, ◌+◌, ◌<◌}
+use Rattle.std.specs.Prelude.{ℕ, Bool, List, None, Option, Some, false, map, option_map, true, ◌++◌, ◌==◌, ◌||◌, ◌≡◌, ◌⊎◌, [], fold, ◌∷◌, take, drop, length, ◌+◌, ◌<◌}
 use Rattle.tab_doors.specs.Keeping.{Move}
 use Rattle.tab_doors.specs.Look.{Sight, sight}
-use Rattle.tab_doors.specs.Working.{IsAtWorkFor}
+use Rattle.tab_doors.specs.Working.{IsAtWorkIn}
 use Rattle.tab_doors.specs.declared.tables.Tables.{Tables}
 pub use Rattle.tab_facts.specs.TabGoing.Going.{IsGoing}
 use Rattle.tab_ids.specs.declared.DocId.{DocId}
@@ -37,13 +37,17 @@ use Rattle.seen_facts.specs.Walk.Walking.{LeavesOthers}
 use Rattle.log_model.specs.declared.job.Task.TheVariants as tasks
 use Rattle.log_model.specs.declared.row_kind.RowKind.TheVariants as rows
 
--- with the move that has begun, if one has, and these documents still to be frozen or discarded
-pub record IsLeaving (p : InPass) (move : Option Move) (docs : List DocId) (out : List RowKind) (t : Tables) : Type 0 where
-  pub work : IsAtWorkFor move p.event out t
+-- with the move that has begun, if one has, and these documents still to be frozen or discarded; where documents are swept, or none are
+pub record IsLeavingIn (sweeps : Bool) (p : InPass) (move : Option Move) (docs : List DocId) (out : List RowKind) (t : Tables) : Type 0 where
+  pub work : IsAtWorkIn sweeps move p.event out t
   pub going : IsGoing t.running p.loads p.hand (now_of p.event out)
   pub owed : IsOwed p.event out
   pub rests : RestBut docs (now_of p.event out)
   pub duly : AreLeftDuly (log_of p.event out)
+
+-- where none are
+abbrev pub IsLeaving : InPass → Option Move → List DocId → List RowKind → Tables → Type 0
+IsLeaving p move docs out t = IsLeavingIn false p move docs out t
 
 -- the document may be left for a reason, for which orders may be sent: it is made, and who falls asleep with it is moved by the reason, which is no traversal that is still to begin
 pub record MayLeave (s : Seen) (doc : DocId) (why : Why) : Type 0 where
@@ -72,6 +76,13 @@ pub record InLeaving : Type 0 where
   pub pass : InPass
   pub move : Option Move
   pub docs : List DocId
+
+-- where one is discarded: the same, and whether documents are swept
+pub record InDiscarding : Type 0 where
+  pub pass : InPass
+  pub move : Option Move
+  pub docs : List DocId
+  pub sweeps : Bool
 
 -- a document of a navigable at or below this one is to be frozen: it is made and there, not frozen yet, without a handler, and a navigable was awake on it as the event began
 pub record IsToFreeze (e : InEvent) (s : Seen) (nav : NavId) (doc : DocId) : Type 0 where

@@ -9,8 +9,8 @@ use Rattle.log_model.specs.declared.row_kind.RowKind.{RowKind}
 use Rattle.row_facts.specs.Owed.Owed.{IsLoose, IsOwed}
 use Rattle.row_facts.specs.RestRows.Moving.{AllRest}
 use Rattle.seen_laws.specs.InEvent.{InEvent, log_of, now_of}
-use Rattle.std.specs.Prelude.{List, None, Option, Some, length, true, ℕ, ◌++◌, ◌≡◌, ◌≤◌}
-use Rattle.tab_doors.specs.Working.{IsAtWork}
+use Rattle.std.specs.Prelude.{Bool, List, None, Option, Some, false, length, true, ℕ, ◌++◌, ◌≡◌, ◌≤◌}
+use Rattle.tab_doors.specs.Working.{IsAtWorkIn}
 use Rattle.tab_doors.specs.declared.tables.Tables.{Tables}
 use Rattle.tab_facts.specs.TabGoing.Going.{IsGoing}
 use Rattle.tab_ids.specs.declared.ReqId.{ReqId}
@@ -22,8 +22,9 @@ pub record InPass : Type 0 where
   pub loads : List ReqId
   pub hand : List Made
 
-pub record IsPassing (p : InPass) (out : List RowKind) (t : Tables) : Type 0 where
-  pub work : IsAtWork p.event out t
+-- where documents are swept, or none are
+pub record IsPassingIn (sweeps : Bool) (p : InPass) (out : List RowKind) (t : Tables) : Type 0 where
+  pub work : IsAtWorkIn sweeps None p.event out t
   pub going : IsGoing t.running p.loads p.hand (now_of p.event out)
   -- what the rows so far owe is paid, whatever orders come; and by any rows, where all stand
   pub owed : IsOwed p.event out
@@ -32,6 +33,10 @@ pub record IsPassing (p : InPass) (out : List RowKind) (t : Tables) : Type 0 whe
   pub few : length (now_of p.event out).kept ≤ t.kept.keep
   -- whom requests leave was asked
   pub duly : AreLeftDuly (log_of p.event out)
+
+-- where none are
+abbrev pub IsPassing : InPass → List RowKind → Tables → Type 0
+IsPassing p out t = IsPassingIn false p out t
 
 -- the step that the history is brought to, as the tables tell: that of the goal of the traversal that runs, else the current one
 abbrev pub aim_in : History → Option ReqId → Step → ℕ

@@ -8,11 +8,11 @@ ghost use Rattle.log_model.specs.declared.row_kind.RowKind.TheVariants as rows;
 ghost use Rattle.seen_laws.specs.InEvent.{now_of};
 ghost use Rattle.tab_doors.specs.Keeping.{LetsGo};
 ghost use Rattle.tab_doors.specs.Orders.{IsThere, order_to};
-ghost use Rattle.tab_doors.specs.Working.{KeepsStore, MaySend};
+ghost use Rattle.tab_doors.specs.Working.{KeepsStore, MayDiscardIn, MaySend};
 ghost use Rattle.page_cache.specs.Kept.{left_first};
 ghost use Rattle.tab_passes.specs.Passing.{InPass, IsPassing};
 ghost use Rattle.log_model.specs.AfterPlaces.{without_doc};
-ghost use Rattle.tab_passes.specs.Leaving.{HasOnlyFrozen, InLeaving, InNext, InTurn, IsFreezing, IsFreezingAt, IsGoneAt, IsLeaving, IsStill, IsTurnAt, MayLeave, left_then, without_all};
+ghost use Rattle.tab_passes.specs.Leaving.{HasOnlyFrozen, InDiscarding, InLeaving, InNext, InTurn, IsFreezing, IsFreezingAt, IsGoneAt, IsLeaving, IsLeavingIn, IsStill, IsTurnAt, MayLeave, left_then, without_all};
 
 use crate::sleeping::sleepers;
 use address::OutOfMemory;
@@ -131,14 +131,15 @@ pub fn discard(
     state: StateId,
     why: Why,
 ) -> Result<(), OutOfMemory>
-    ghost l: { InLeaving }
-    requires leaving { IsLeaving l.pass l.move l.docs out.old tables.old }
+    ghost l: { InDiscarding }
+    requires leaving { IsLeavingIn l.sweeps l.pass l.move l.docs out.old tables.old }
     requires may { MayLeave (now_of l.pass.event out.old) doc why }
     requires sends { MaySend l.move l.pass.event out.old (order_to (now_of l.pass.event out.old) doc why tasks.Discard) }
     requires gone { IsGoneAt (now_of l.pass.event out.old) tables.old.tree tables.old.loads doc state }
     requires own_state { AreOfOwnStates (now_of l.pass.event out.old).documents (now_of l.pass.event out.old).kept doc state }
     requires lets_go { LetsGo l.move tables.old.kept.keep (kept_states (now_of l.pass.event out.old)) state }
-    ensures leaving { OnOk result (IsLeaving l.pass l.move (left_then (now_of l.pass.event out.old) doc l.docs) out.new tables.new) }
+    requires free { MayDiscardIn l.sweeps l.pass.event }
+    ensures leaving { OnOk result (IsLeavingIn l.sweeps l.pass l.move (left_then (now_of l.pass.event out.old) doc l.docs) out.new tables.new) }
     ensures out { OnOk result (out.new ≡ out.old ++ rows.Sent (order_to (now_of l.pass.event out.old) doc why tasks.Discard) ∷ []) }
     ensures kept { OnOk result (KeepsStore tables.old tables.new) }
 {

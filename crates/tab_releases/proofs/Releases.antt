@@ -120,7 +120,7 @@ module _ (p : InPass) (t : Tables) (was : List RowKind) (u : Tables) (out : List
   apart : (req : ReqId) (q : Asked) → has_req (held_at_first p.event) req ≡ true → request_of s req ≡ Some q → is_traversal q.what ≡ false
   apart req q among at =
       let asked = was_asked wish (now_of p.event was).requests s.requests so.wishes req q at in
-      ap (λ (w : Wish). is_traversal w.what) (sym asked.2) ∙ so.turning.apart req asked.0 among asked.1
+      ap (λ (w : Wish). is_traversal w.what) (sym asked.2) ∙ so.turning.waits.apart req asked.0 among asked.1
 
   -- a document of its navigable made it
   own : IsByItsOwn s first.q made

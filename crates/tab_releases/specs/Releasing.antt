@@ -19,7 +19,7 @@ use Rattle.tab_takes.specs.Taking.{LeavesQueue, is_reloading}
 pub use Rattle.tab_takes.specs.Taking.{InPass, IsPassing, IsTaking, KeepsRun, LoadsMadeOwn, MayCause, Tables}
 use Rattle.tab_ids.specs.declared.ReqId.{ReqId}
 use Rattle.tab_ids.specs.declared.StateId.{StateId}
-pub use Rattle.tab_takes.specs.PassedOn.{IsTurning}
+pub use Rattle.tab_takes.specs.PassedOn.{IsTurning, IsWaiting}
 use Rattle.log_model.specs.declared.job.Why.TheVariants as whys
 use Rattle.log_model.specs.declared.row_kind.Actor.TheVariants as actors
 

@@ -17,7 +17,7 @@ use Rattle.seen_facts.specs.Asked.Asking.{ArePlain, IsThere}
 use Rattle.seen_facts.specs.Hang.Hanging.{Hangs}
 use Rattle.seen_facts.specs.Load.Loading.{look}
 use Rattle.seen_facts.specs.Walk.Walking.{IsApart, LeavesOthers}
-use Rattle.std.proofs.Common.{Bool, List, None, Option, Some, [], ap, arith, false, inl, inr, map, refl, subst, sym, true, ℕ, ◌&&◌, ◌+◌, ◌-◌, ◌<◌, ◌==◌, ◌∙◌, ◌∷◌, ◌≡◌, ◌≤◌}
+use Rattle.std.proofs.Common.{Bool, List, None, Option, Some, [], ap, arith, false, inl, inr, map, refl, subst, sym, true, ℕ, ◌&&◌, ◌+◌, ◌-◌, ◌==◌, ◌∙◌, ◌∷◌, ◌≡◌, ◌≤◌}
 use Rattle.std.proofs.lemmas.Option.{slice_get-map}
 use Rattle.std.specs.Option.{option_map_or}
 use Rattle.std.specs.Prelude.{if◌then◌else◌, is_none, option_map, slice_get}
@@ -26,7 +26,7 @@ use Rattle.tab_ids.specs.declared.ReqId.{ReqId}
 use Rattle.tab_passes.proofs.PassedOn.{leaver_same}
 use Rattle.tab_passes.specs.Leaving.{IsLeaver}
 use Rattle.tab_facts.specs.Calm.Calm.{NeedIsNew}
-use Rattle.tab_serves.specs.Serving.{LeavesLater, LeavesVisited, show_why}
+use Rattle.tab_serves.specs.Serving.{LeavesVisited, show_why}
 
 -- ---- over rows that leave how requests look, and the ways
 
@@ -87,9 +87,14 @@ run_leavers s run plain new cause = by_run run refl
 
 -- ---- along the walk
 
--- rows that serve the next one, after which those leave what they show still which did, and so do those below it that are visited in need then
-pub leavers_kept : (s t : Seen) (why : Why) (walk : List NavId) (n : ℕ) (nav : NavId) → IsSound s.history → Hangs s → slice_get walk n ≡ Some nav → LeavesOthers s t nav → ((other : NavId) → IsLeaver s why other → IsLeaver t why other) → ((other : NavId) (place : Place) → place_of t other ≡ Some place → is_below nav place ≡ true → IsVisitedInNeed t place → 1 ≤ place.epoch.0 → IsLeaver t why other) → LeavesLater s why walk n → LeavesLater t why walk (n + 1)
-leavers_kept s t why walk n nav sound hangs here leaves still below leavers other place later at visited shown =
+-- what is so of each later one that is visited in need and was shown a document before
+abbrev pub LaterHave : (NavId → Type 0) → Seen → List NavId → ℕ → Type 0
+LaterHave P s walk n =
+    (nav : NavId) (place : Place) → IsLater walk n nav → place_of s nav ≡ Some place → IsVisitedInNeed s place → 1 ≤ place.epoch.0 → P nav
+
+-- rows that serve the next one, after which another thing is so of those of which the one was, and so it is of those below it that are visited in need then
+pub later_have : (P Q : NavId → Type 0) (s t : Seen) (walk : List NavId) (n : ℕ) (nav : NavId) → IsSound s.history → Hangs s → slice_get walk n ≡ Some nav → LeavesOthers s t nav → ((other : NavId) → P other → Q other) → ((other : NavId) (place : Place) → place_of t other ≡ Some place → is_below nav place ≡ true → IsVisitedInNeed t place → 1 ≤ place.epoch.0 → Q other) → LaterHave P s walk n → LaterHave Q t walk (n + 1)
+later_have P Q s t walk n nav sound hangs here leaves still below so other place later at visited shown =
     by_test (is_below nav place) refl
   where
     differs : (b : Bool) → (other.0 == nav.0) ≡ b → (other.0 == nav.0) ≡ false
@@ -97,11 +102,11 @@ leavers_kept s t why walk n nav sound hangs here leaves still below leavers othe
     differs true is =
         absurd (later n (omega arith) (here ∙ ap (λ (m : NavId). Some m) (sym (nav_is other nav is))))
 
-    by_test : (b : Bool) → is_below nav place ≡ b → IsLeaver t why other
+    by_test : (b : Bool) → is_below nav place ≡ b → Q other
     by_test true is = below other place at is visited shown
     by_test false is =
         let was = visited_still s t nav sound hangs leaves other place apart at visited in
-        still other (leavers other place (λ k low there. later k (omega (arith, low)) there) was.placed was.visited shown)
+        still other (so other place (λ k low there. later k (omega (arith, low)) there) was.placed was.visited shown)
       where
         above_of : Option Place → Option (List NavId)
         above_of o = option_map (λ (p : Place). p.above) o

@@ -115,6 +115,7 @@ module _ (p : InPass) (cause : Why) (navs : List NavId) where
           unwoken = may.unwoken;
           moves = later_first (now_of p.event out) (show_why t.running cause) navs may.moves;
           leavers = λ nav place later. may.leavers nav place;
+          frees = λ nav place later. may.frees nav place;
           rows_ = may.rows_;
           off = off_first p.event out (show_why t.running cause) may.since.distinct (places_distinct (now_of p.event out) passing.going.tab.sound passing.going.tab.hangs) passing.going.tab.homes.homed may.still;
           header = may.header;

@@ -24,7 +24,7 @@ use Rattle.seen_laws.specs.InEvent.{InEvent, now_of}
 use Rattle.std.proofs.Common.{Bool, List, None, Option, Some, [], ap, arith, false, inl, inr, not, refl, subst, suc, sym, take, true, zero, ℕ, ◌&&◌, ◌+◌, ◌<◌, ◌==◌, ◌||◌, ◌∙◌, ◌∷◌, ◌≡◌, ◌≤◌, ◌⊎◌}
 use Rattle.std.specs.List.{list_any}
 use Rattle.std.specs.Prelude.{if◌then◌else◌, is_some, option_map, slice_get}
-use Rattle.tab_doors.specs.Working.{KeepsStore}
+use Rattle.tab_doors.specs.Working.{KeepsStore, MayDiscardIn}
 use Rattle.tab_doors.specs.declared.tables.Tables.{Tables}
 use Rattle.tab_ids.specs.declared.EntryId.{EntryId}
 use Rattle.tab_ids.specs.declared.NavId.{NavId}
@@ -39,7 +39,7 @@ use Rattle.tab_walk.specs.Moving.{HasBeenMoved, HasOnly, MayMoveTo}
 use Rattle.row_facts.specs.WalkRows.Later.{IsLater}
 use Rattle.tab_passes.proofs.PassedOn.{leaver_below}
 use Rattle.tab_passes.specs.Leaving.{IsLeaver, OffAreLeft}
-use Rattle.tab_serves.proofs.Leavers.{leaver_still, leavers_kept}
+use Rattle.tab_serves.proofs.Leavers.{later_have, leaver_still}
 use Rattle.tab_serves.proofs.Below.{kept_loads, left_loads}
 use Rattle.tab_serves.proofs.Calms.{made_calm, made_loads, made_place, moved_calm, moved_first, moved_loads}
 use Rattle.tab_serves.proofs.Ups.{turn_up, up_places}
@@ -130,6 +130,7 @@ module _ (w : InWalk) (n : ℕ) (out : List RowKind) (t : Tables) (walking : IsW
         unwoken = subst (λ (m : ℕ). AwakeSince e.start (take m w.navs) s) (sym (plus_one n)) (since_more e.start s (take n w.navs) walking.unwoken (take (suc n) w.navs) (more_taken n w.navs));
         moves = later_more s (show_why t.running w.cause) w.navs n walking.moves;
         leavers = λ other place later placed visited shown. walking.leavers other place (λ k low there. later k (omega (arith, low)) there) placed visited shown;
+        frees = λ other place later placed visited shown. walking.frees other place (λ k low there. later k (omega (arith, low)) there) placed visited shown;
         rows_ = walking.rows_;
         off = walking.off;
         header = walking.header;
@@ -180,13 +181,17 @@ module _ (w : InWalk) (n : ℕ) (out : List RowKind) (t : Tables) (walking : IsW
     moved_here =
         later_here s (show_why t.running w.cause) w.navs n nav needing.place walking.order here walking.moves needing.placed visited
 
+    own_later : IsLater w.navs n nav
+    own_later k low there =
+        let never : true ≡ false = sym (nat_eq_refl nav.0) ∙ (walking.order.apart k n nav nav low there here).differs in cc
+
     -- it leaves what it shows
     leaves_here : 1 ≤ needing.place.epoch.0 → IsLeaver s (show_why t.running w.cause) nav
-    leaves_here = walking.leavers nav needing.place later needing.placed visited
-      where
-        later : IsLater w.navs n nav
-        later k low there =
-            let never : true ≡ false = sym (nat_eq_refl nav.0) ∙ (walking.order.apart k n nav nav low there here).differs in cc
+    leaves_here = walking.leavers nav needing.place own_later needing.placed visited
+
+    -- and then no step is in its check
+    frees_here : 1 ≤ needing.place.epoch.0 → MayDiscardIn false e
+    frees_here = walking.frees nav needing.place own_later needing.placed visited
 
     -- none at or below it was served before
     not_before : (other : NavId) (place : Place) → IsAtOrBelow nav other place → place_of s other ≡ Some place → has_nav (take n w.navs) other ≡ false
@@ -213,6 +218,7 @@ module _ (w : InWalk) (n : ℕ) (out : List RowKind) (t : Tables) (walking : IsW
             moved = λ place placed shown. moved_here (let both : Some place ≡ Some needing.place = sym placed ∙ needing.placed in let one : place ≡ needing.place = cc in subst (λ (p : Place). 1 ≤ p.epoch.0) one shown);
           };
           leaves = λ place placed shown. leaves_here (let both : Some place ≡ Some needing.place = sym placed ∙ needing.placed in let one : place ≡ needing.place = cc in subst (λ (p : Place). 1 ≤ p.epoch.0) one shown);
+          free = λ place placed shown. frees_here (let both : Some place ≡ Some needing.place = sym placed ∙ needing.placed in let one : place ≡ needing.place = cc in subst (λ (p : Place). 1 ≤ p.epoch.0) one shown);
           rows_ = walking.rows_;
           were = walking.walked.were;
           loads = kept_loads t.running w.pass.loads w.pass.hand s passing.going.tab walking.walked.were.owned walking.walked.loads;
@@ -340,7 +346,8 @@ module _ (w : InWalk) (n : ℕ) (out : List RowKind) (t : Tables) (walking : IsW
             may = turn.causes w.cause walking.may;
             unwoken = subst (λ (m : ℕ). AwakeSince e.start (take m w.navs) x) (sym (plus_one n)) unwoken_then;
             moves = subst (λ (r : Option ReqId). MovesLater x (show_why r w.cause) w.navs (n + 1)) (sym kept.running) (later_kept s x why w.navs n nav passing.going.tab.sound passing.going.tab.hangs here turn.others (moved_over e out new orders why) moved_below walking.moves);
-            leavers = subst (λ (r : Option ReqId). LeavesLater x (show_why r w.cause) w.navs (n + 1)) (sym kept.running) (leavers_kept s x why w.navs n nav passing.going.tab.sound passing.going.tab.hangs here turn.others leaver_then leaves_below walking.leavers);
+            leavers = subst (λ (r : Option ReqId). LeavesLater x (show_why r w.cause) w.navs (n + 1)) (sym kept.running) (later_have (λ (m : NavId). IsLeaver s why m) (λ (m : NavId). IsLeaver x why m) s x w.navs n nav passing.going.tab.sound passing.going.tab.hangs here turn.others leaver_then leaves_below walking.leavers);
+            frees = later_have (λ (m : NavId). MayDiscardIn false e) (λ (m : NavId). MayDiscardIn false e) s x w.navs n nav passing.going.tab.sound passing.going.tab.hangs here turn.others (λ other free. free) (λ other place placed below visited_ shown. frees_here (raised (shown_above other place placed below))) walking.frees;
             rows_ = rows_then walking.rows_;
             off = subst (λ (r : Option ReqId). OffAreLeft e new (show_why r w.cause)) (sym kept.running) off;
             header = kept.keep ∙ walking.header;

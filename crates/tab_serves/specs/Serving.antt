@@ -15,8 +15,8 @@ use Rattle.log_model.specs.declared.job.Task.{Task}
 use Rattle.log_model.specs.declared.job.Why.{Why}
 use Rattle.log_model.specs.declared.row_kind.RowKind.{RowKind}
 use Rattle.seen_laws.specs.InEvent.{InEvent, now_of}
-use Rattle.std.specs.Prelude.{List, Option, Some, [], is_some, map, take, true, ℕ, ◌∷◌, ◌≡◌, ◌≤◌, ◌⊎◌}
-use Rattle.tab_doors.specs.Working.{KeepsStore}
+use Rattle.std.specs.Prelude.{List, Option, Some, [], false, is_some, map, take, true, ℕ, ◌∷◌, ◌≡◌, ◌≤◌, ◌⊎◌}
+use Rattle.tab_doors.specs.Working.{KeepsStore, MayDiscardIn}
 use Rattle.tab_doors.specs.declared.tables.Tables.{Tables}
 use Rattle.tab_ids.specs.declared.DocId.{DocId}
 use Rattle.tab_ids.specs.declared.NavId.{NavId}
@@ -46,6 +46,15 @@ abbrev pub LeavesLater : Seen → Why → List NavId → ℕ → Type 0
 LeavesLater s why walk n =
     (nav : NavId) (place : Place) → IsLater walk n nav → place_of s nav ≡ Some place → IsVisitedInNeed s place → 1 ≤ place.epoch.0 → IsLeaver s why nav
 
+-- no step was in its check as the event began or was cut, if a navigable that the walk visits and that needs something was shown a document before
+abbrev pub FreesVisited : InEvent → Seen → Type 0
+FreesVisited e s = (nav : NavId) (place : Place) → place_of s nav ≡ Some place → IsVisitedInNeed s place → 1 ≤ place.epoch.0 → MayDiscardIn false e
+
+-- of a walk that has served its first navigables, if a later one was
+abbrev pub FreesLater : InEvent → Seen → List NavId → ℕ → Type 0
+FreesLater e s walk n =
+    (nav : NavId) (place : Place) → IsLater walk n nav → place_of s nav ≡ Some place → IsVisitedInNeed s place → 1 ≤ place.epoch.0 → MayDiscardIn false e
+
 -- who was awake on a document is so still, or that document is discarded
 abbrev pub StillAwake : Seen → Seen → Type 0
 StillAwake start s =
@@ -53,7 +62,7 @@ StillAwake start s =
 
 -- ---- what the walk asks for
 
--- orders may be for the cause; who is awake was so as the event began, and who was awake then is so, but for discarded documents; who is visited in need was moved by the reason, and leaves what it shows for it, unless it was never shown a document; who is awake has an entry; ongoing loads stand
+-- orders may be for the cause; who is awake was so as the event began, and who was awake then is so, but for discarded documents; who is visited in need was moved by the reason, and leaves what it shows for it, with no step in its check, unless it was never shown a document; who is awake has an entry; ongoing loads stand
 pub record MayWalk (e : InEvent) (run : Option ReqId) (keep : ℕ) (cause : Why) (s : Seen) : Type 0 where
   pub may : MayCause s cause
   pub since : IsSince e.start s
@@ -61,6 +70,7 @@ pub record MayWalk (e : InEvent) (run : Option ReqId) (keep : ℕ) (cause : Why)
   pub still : StillAwake e.start s
   pub moves : MovesVisited s (show_why run cause)
   pub leavers : LeavesVisited s (show_why run cause)
+  pub frees : FreesVisited e s
   pub rows_ : AreAwakeWithRows s
   pub were : WereShown s
   pub parents : ParentsShown s
@@ -140,10 +150,11 @@ pub record IsWalking (w : InWalk) (n : ℕ) (out : List RowKind) (t : Tables) : 
   pub passing : IsPassing w.pass out t
   pub walked : HasWalked w.pass.event (now_of w.pass.event out)
   pub may : MayCause (now_of w.pass.event out) w.cause
-  -- of the others, who is awake was so as the event began; and who is visited in need was moved by the reason, and leaves what it shows for it, unless it was never shown a document
+  -- of the others, who is awake was so as the event began; and who is visited in need was moved by the reason, and leaves what it shows for it, with no step in its check, unless it was never shown a document
   pub unwoken : AwakeSince w.pass.event.start (take n w.navs) (now_of w.pass.event out)
   pub moves : MovesLater (now_of w.pass.event out) (show_why t.running w.cause) w.navs n
   pub leavers : LeavesLater (now_of w.pass.event out) (show_why t.running w.cause) w.navs n
+  pub frees : FreesLater w.pass.event (now_of w.pass.event out) w.navs n
   -- who is awake has an entry; and who isn't shown wasn't as the event began, or is left duly
   pub rows_ : AreAwakeWithRows (now_of w.pass.event out)
   pub off : OffAreLeft w.pass.event out (show_why t.running w.cause)

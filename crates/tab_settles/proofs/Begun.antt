@@ -26,7 +26,7 @@ use Rattle.tab_settles.proofs.MovedRows.{shown_idle}
 use Rattle.tab_settles.proofs.MovedTurns.{shown_began}
 use Rattle.tab_settles.proofs.Stood.{stood_live, theirs_over}
 use Rattle.tab_settles.specs.Offs.{LateKnown}
-use Rattle.tab_settles.specs.Settling.{AsksFirst, HasSettled, HasTurned, IsCalmAfter, IsCalmBefore, IsQueueing, IsReady, MovedAreShown}
+use Rattle.tab_settles.specs.Settling.{AsksFirst, HasSettled, HasTurned, IsCalmAfter, IsCalmBefore, IsQueueing, IsReady, MayDiscardIn, MovedAreShown}
 use Rattle.log_model.specs.declared.job.Why.TheVariants as whys
 
 module _ (p : InPass) (out : List RowKind) (t : Tables) (queue : Queue) (blame : List (StateId × ReqId)) (cause : Why) (at : HasSettled p out t queue blame cause) (idle : t.running ≡ None) where
@@ -36,9 +36,9 @@ module _ (p : InPass) (out : List RowKind) (t : Tables) (queue : Queue) (blame :
   none_s : s.parked ≡ []
   none_s = at.queueing.held idle
 
-  pub begin_asks : IsPassing p out t × (IsTurning p.event out × ((s.parked ≡ []) × (IsAtRest p.event t.running blame s × HasQueue s None queue.waiting)))
-  begin_asks =
-      (at.passing, (at.queueing.turning, (none_s, (record { idle = idle; passed = at.passed; strays = at.strays; loading = at.live.loading }, subst (λ (r : Option ReqId). HasQueue s r queue.waiting) idle at.queueing.queued))))
+  pub begin_asks : MayDiscardIn false p.event → IsPassing p out t × (IsTurning p.event out × ((s.parked ≡ []) × (IsAtRest p.event t.running blame s × HasQueue s None queue.waiting)))
+  begin_asks free =
+      (at.passing, (record { waits = at.queueing.waits; free = free }, (none_s, (record { idle = idle; passed = at.passed; strays = at.strays; loading = at.live.loading }, subst (λ (r : Option ReqId). HasQueue s r queue.waiting) idle at.queueing.queued))))
 
   -- ---- whom the turn of a step moves
 
@@ -68,7 +68,7 @@ module _ (p : InPass) (out : List RowKind) (t : Tables) (queue : Queue) (blame :
     queueing_n : IsQueueing p new u left
     queueing_n =
         record {
-          turning = turning;
+          waits = turning.waits;
           queued = queued;
           parked = parked ∙ at.queueing.parked ∙ ap (λ (l : List ReqId). held_back s.requests l) none_s ∙ ap (λ (l : List ReqId). held_back n.requests l) (sym none);
           held = λ runs. none;
@@ -83,7 +83,25 @@ module _ (p : InPass) (out : List RowKind) (t : Tables) (queue : Queue) (blame :
     -- how calm the tab is then
     calm_for : (r : Option ReqId) (req : ReqId) → IsCalmFor r req n → IsCalmBefore r (whys.Req req) n
     calm_for None req around =
-        inr (around.0, (around.1.0, record { req = req; for_ = refl; last = around.1.1 }))
+        inr (
+          around.0,
+          (
+            around.1.0,
+            record {
+              req = req;
+              for_ = refl;
+              last = record {
+                mover = around.1.1.mover;
+                found = around.1.1.found;
+                change = around.1.1.change;
+                changed = around.1.1.changed;
+                its = around.1.1.its;
+                last = around.1.1.last;
+                unstood = around.1.1.unstood;
+              };
+            },
+          ),
+        )
     calm_for (Some run) req calm = calm
 
     -- of each that is awake it is told that it is shown, since all stood
@@ -104,6 +122,7 @@ module _ (p : InPass) (out : List RowKind) (t : Tables) (queue : Queue) (blame :
           header = keep ∙ at.header;
           open_ = may.open_;
           loads = may.loads;
+          frees = λ nav place placed need since. turning.free;
           blamed = may.blamed;
           calm = calm_for u.running req may.calm;
           late = late_n grown (subst (λ (x : Turn). HasStood s x) is stood);
@@ -122,6 +141,7 @@ module _ (p : InPass) (out : List RowKind) (t : Tables) (queue : Queue) (blame :
           header = keep ∙ at.header;
           open_ = rest_open p new u passing rest.idle rest.passed over.stand cause (over.causes cause at.may);
           loads = rest_loads p new u passing rest.idle rest.passed over.stand;
+          frees = λ nav place placed need since. turning.free;
           blamed = rest_blamed p new u passing rest.passed noted rest.strays;
           calm = subst (λ (r : Option ReqId). IsCalmBefore r cause n) (sym rest.idle) (inl (rested_yet rest over));
           late = late_n grown (subst (λ (x : Turn). HasStood s x) is stood);

@@ -195,7 +195,7 @@ module _ (p : InPass) (out : List RowKind) (t : Tables) (queue : Queue) (blame :
     queueing_n : IsQueueing p new u left
     queueing_n =
         record {
-          turning = turning_n;
+          waits = turning_n.waits;
           queued = subst (λ (r : Option ReqId). HasQueue (now_of e new) r left.waiting) (sym idle_n) queued;
           parked = empty ∙ ap (λ (l : List ReqId). held_back (now_of e new).requests l) (sym none);
           held = λ runs. none;
@@ -217,6 +217,7 @@ module _ (p : InPass) (out : List RowKind) (t : Tables) (queue : Queue) (blame :
           header = kept.keep ∙ ended.keep ∙ at.header;
           open_ = taking.open_ (show_why last cause) may_n;
           loads = taking.loads;
+          frees = λ nav place placed need since. turning_n.free;
           blamed = taking.blamed;
           calm = subst (λ (r : Option ReqId). IsCalmBefore r (show_why last cause) (now_of e new)) (sym idle_n) (inl (subst (λ (r : Option ReqId). CalmUnless IsCalmYet r (now_of e new)) idle_n taking.calm));
           late = subst (λ (r : Option ReqId). LateKnown r (now_of e new)) (sym idle_n) (told_known None (now_of e new) told_n);

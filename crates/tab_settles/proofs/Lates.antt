@@ -228,6 +228,26 @@ module _ (e : InEvent) (cause tells : Why) (was out : List RowKind) (goes : Each
       one x (rows.Dropped req because) shows so nav place doc now wakes = so nav place doc now wakes
       one x kind never so nav place doc now wakes = elim never [ ]
 
+  -- and the load that was applied last is so still
+  pub applied_after : (at : NavId) → IsAppliedFor cause s at → IsAppliedFor cause n at
+  applied_after at it =
+      record {
+        req = it.req;
+        for_ = it.for_;
+        last = record {
+          mover = mover.0;
+          found = mover.1;
+          change = it.last.change;
+          changed = mover.2;
+          its = it.last.its;
+          last = step.last ∙ it.last.last;
+          unstood = step.unstood it.last.unstood;
+        };
+      }
+    where
+      mover : (q : Asked) × (request_of n it.req ≡ Some q) × (q.change ≡ Some it.last.change)
+      mover = step.changes it.req it.last.mover it.last.change it.last.found it.last.changed
+
   pub late_after : n.history ≡ s.history → aim_of s ≡ s.history.current → KeepsUp s n → IsCalmBefore None cause s → AreLateKnown s → AreLateKnown n
   late_after history now keeps calm known nav place doc late shown = by_calm calm
     where

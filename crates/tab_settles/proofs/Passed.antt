@@ -16,16 +16,17 @@ use Rattle.log_model.specs.declared.job.Why.{Why}
 use Rattle.log_model.specs.declared.row_kind.RowKind.{RowKind}
 use Rattle.move_queue.specs.Queue.{Queue}
 use Rattle.seen_laws.specs.InEvent.{InEvent, now_of}
-use Rattle.std.proofs.Common.{List, None, Option, Some, ap, inl, inr, refl, subst, sym, true, ◌∙◌, ◌≡◌, ◌⊎◌, Bool, false, ℕ}
-use Rattle.tab_releases.proofs.PassedOn.{aim_is, queue_left, turning_passed, stand_awake}
+use Rattle.std.proofs.Common.{Bool, List, None, Option, Some, ap, arith, false, inl, inr, length, length-append, refl, subst, sym, true, ℕ, ◌+◌, ◌<◌, ◌∙◌, ◌≡◌, ◌⊎◌}
+use Rattle.tab_releases.proofs.PassedOn.{aim_is, left_blamed, own_document, queue_left, stand_awake, stand_bare, waiting_passed}
 use Rattle.tab_releases.proofs.Releases.{IsByItsOwn, mades_same, queue_over}
 use Rattle.tab_facts.specs.TabEvents.Between.{AreSwept, orders_go}
-use Rattle.tab_releases.specs.PassedOn.{AreBlamed, AreLeftStrays, HasOnly, HasPassed, HasPutOut, HasQueue, KeepsStore, LeavesCalm, LeavesPass, LoadsLive, MayPass, SendsForStrays, aim_in}
+use Rattle.tab_releases.specs.PassedOn.{AreBlamed, AreLeftStrays, HasOnly, HasPassed, HasPaused, HasPutOut, HasQueue, KeepsStore, LeavesCalm, LeavesPass, LoadsLive, MayPass, MayStand, SendsForStrays, aim_in}
 use Rattle.tab_releases.specs.Releasing.{HoldsParked, InPass, IsPassing, LoadsMadeOwn, Tables}
 use Rattle.tab_ids.specs.declared.NavId.{NavId}
 use Rattle.tab_ids.specs.declared.ReqId.{ReqId}
 use Rattle.tab_ids.specs.declared.StateId.{StateId}
-use Rattle.tab_settles.proofs.Lates.{late_after}
+use Rattle.seen_facts.specs.LoadEnds.Standing.{LoadsStand}
+use Rattle.tab_settles.proofs.Lates.{applied_after, late_after}
 use Rattle.tab_settles.proofs.LoadsOff.{off_passed}
 use Rattle.tab_settles.proofs.MovedPasses.{put_shown}
 use Rattle.tab_settles.proofs.MovedRows.{shown_idle}
@@ -33,15 +34,17 @@ use Rattle.tab_settles.proofs.PutOuts.{only_applies_none, only_leaves, put_only,
 use Rattle.tab_settles.proofs.Sweeps.{swept_or}
 use Rattle.tab_settles.proofs.Puts.{pass_put, put_then}
 use Rattle.tab_settles.specs.Offs.{LateKnown}
-use Rattle.tab_settles.specs.Settling.{HasPut, HasSettled, IsCalmAfter, IsCalmBefore, IsOrderOrDrop, IsQueueing, IsReady, LeavesOff, LeavesPut, MayRelease, MovedAreShown}
+use Rattle.tab_settles.specs.Settling.{FreesVisited, HasPut, HasSettled, HasWaited, IsPassingIn, IsCalmAfter, IsCalmBefore, IsOrderOrDrop, IsQueueing, IsReady, LeavesOff, LeavesPut, MayRelease, MovedAreShown}
 use Rattle.seen_facts.specs.Walk.Serving.{AreServed}
 
 module _ (p : InPass) (out : List RowKind) (t : Tables) (queue : Queue) (blame : List (StateId × ReqId)) (cause : Why) (ready : IsReady p out t queue blame cause) where
   -- what a pass asks
-  pub pass_asks : IsPassing p out t × (MayPass p.event t.running t.kept.keep cause (now_of p.event out) × AreBlamed (now_of p.event out) blame)
-  pass_asks = (ready.passing, (record { open_ = ready.open_; loads = ready.loads; header = ready.header }, ready.blamed))
+  pub pass_asks : IsPassing p out t × (MayPass p.event t.running t.kept.keep cause (now_of p.event out) × (AreBlamed (now_of p.event out) blame × FreesVisited p.event (now_of p.event out)))
+  pass_asks = (ready.passing, (record { open_ = ready.open_; loads = ready.loads; header = ready.header }, (ready.blamed, ready.frees)))
 
-  module _ (new : List RowKind) (u : Tables) (noted : List (StateId × ReqId)) (tells : Why) (passing : IsPassing p new u) (served : AreServed (now_of p.event new)) (told : ends_told (now_of p.event new) ≡ true) (strays : AreLeftStrays (now_of p.event new) noted) (passed : HasPassed p.event (now_of p.event new)) (left : LeavesPass (now_of p.event out) (now_of p.event new)) (only : HasPutOut p.event t.running cause tells out new) (kept : KeepsStore t u) (calm : LeavesCalm t.running (now_of p.event out) (now_of p.event new)) (sent : SendsForStrays (now_of p.event out) (now_of p.event new) out new) where
+  -- ---- what is so whether it went on or waits before its walk
+
+  module _ {sweeps : Bool} (new : List RowKind) (u : Tables) (noted : List (StateId × ReqId)) (tells : Why) (passing : IsPassingIn sweeps p new u) (left : LeavesPass (now_of p.event out) (now_of p.event new)) (only : HasPutOut p.event t.running cause tells out new) (kept : KeepsStore t u) where
     abbrev s : Seen
     s = now_of p.event out
 
@@ -96,7 +99,7 @@ module _ (p : InPass) (out : List RowKind) (t : Tables) (queue : Queue) (blame :
     queueing_then : IsQueueing p new u queue
     queueing_then =
         record {
-          turning = turning_passed p.event out new left ready.queueing.turning;
+          waits = waiting_passed p.event out new left ready.queueing.waits;
           queued = queued_then;
           parked = parked_then;
           held = λ none. left.parked ∙ ready.queueing.held (sym kept.running ∙ none);
@@ -108,17 +111,6 @@ module _ (p : InPass) (out : List RowKind) (t : Tables) (queue : Queue) (blame :
             old = λ req has. may.old req (ap (λ (l : List ReqId). has_req l req) (sym left.parked) ∙ has);
           });
         }
-
-    -- ---- how calm the tab is
-
-    calm_then : IsCalmAfter u.running n
-    calm_then =
-        subst (λ (r : Option ReqId). IsCalmAfter r n) (sym kept.running) (by_run t.running calm ready.calm)
-      where
-        by_run : (r : Option ReqId) → LeavesCalm r s n → IsCalmBefore r cause s → IsCalmAfter r n
-        by_run None leaves_ (inl yet) = leaves_.yet yet
-        by_run None leaves_ (inr around) = leaves_.around around.0 around.1.0
-        by_run (Some run) leaves_ before = (leaves_.unmoved run refl before.0, leaves_.rooted before.1)
 
     -- ---- whom the traversal has moved
 
@@ -154,37 +146,95 @@ module _ (p : InPass) (out : List RowKind) (t : Tables) (queue : Queue) (blame :
             late_after p.event cause tells out new passing.work.goes puts left.history (aim_is s t.running ready.passing.going.tab.asked t.goal ready.passing.work.goal ∙ ap (λ (r : Option ReqId). aim_in s.history r t.goal) is) left.up before late
         by_run (Some run) is before late puts = tt
 
-    -- ---- ongoing loads, and stray documents
+    -- ---- ongoing loads
 
-    live_then : LoadsLive n
-    live_then =
+    live_then : LoadsStand n → LoadsLive n
+    live_then stand =
         record {
-          awake = stand_awake u.running p.loads p.hand n passing.going.tab passed.walked.loads;
+          awake = stand_awake u.running p.loads p.hand n passing.going.tab stand;
           loading = left.loading ready.live.loading;
         }
 
-    swept_then : AreSwept n ⊎ (orders_go n ≡ true)
-    swept_then =
-        swept_or p.event out new put (λ doc d found stray. sent (λ req nav its bare. ready.live.awake req nav its) doc d.state stray)
+    -- ---- it went on
 
-    pub settled : HasSettled p new u queue noted cause
-    settled =
+    module _ (went : IsPassing p new u) (served : AreServed n) (told : ends_told n ≡ true) (strays : AreLeftStrays n noted) (passed : HasPassed p.event n) (calm : LeavesCalm t.running s n) (sent : SendsForStrays s n out new) where
+      calm_then : IsCalmAfter u.running n
+      calm_then =
+          subst (λ (r : Option ReqId). IsCalmAfter r n) (sym kept.running) (by_run t.running calm ready.calm)
+        where
+          by_run : (r : Option ReqId) → LeavesCalm r s n → IsCalmBefore r cause s → IsCalmAfter r n
+          by_run None leaves_ (inl yet) = leaves_.yet yet
+          by_run None leaves_ (inr around) = leaves_.around around.0 around.1.0
+          by_run (Some run) leaves_ before = (leaves_.unmoved run refl before.0, leaves_.rooted before.1)
+
+      swept_then : AreSwept n ⊎ (orders_go n ≡ true)
+      swept_then =
+          swept_or p.event out new put (λ doc d found stray. sent (λ req nav its bare. ready.live.awake req nav its) doc d.state stray)
+
+      pub settled_in : HasSettled p new u queue noted cause
+      settled_in =
+          record {
+            passing = went;
+            empty = ready.empty;
+            header = kept.keep ∙ ready.header;
+            may = left.causes cause ready.open_.may;
+            passed = passed;
+            strays = strays;
+            served = served;
+            told = told;
+            swept = swept_then;
+            calm = calm_then;
+            late = late_then;
+            moved = moved_then;
+            live = live_then passed.walked.loads;
+            theirs = theirs_then;
+            queueing = queueing_then;
+          }
+
+  pub settled : (new : List RowKind) (u : Tables) (noted : List (StateId × ReqId)) (tells : Why) → IsPassing p new u → AreServed (now_of p.event new) → ends_told (now_of p.event new) ≡ true → AreLeftStrays (now_of p.event new) noted → HasPassed p.event (now_of p.event new) → LeavesPass (now_of p.event out) (now_of p.event new) → HasPutOut p.event t.running cause tells out new → KeepsStore t u → LeavesCalm t.running (now_of p.event out) (now_of p.event new) → SendsForStrays (now_of p.event out) (now_of p.event new) out new → HasSettled p new u queue noted cause
+  settled new u noted tells passing served told strays passed left only kept calm sent = settled_in new u noted tells passing left only kept passing served told strays passed calm sent
+
+  -- ---- it waits
+
+  module _ (new : List RowKind) (u : Tables) (noted : List (StateId × ReqId)) (tells : Why) (paused : HasPaused p cause tells t out new u noted) where
+    abbrev m : Seen
+    m = now_of p.event new
+
+    no_run : u.running ≡ None
+    no_run = paused.kept.running ∙ paused.idle
+
+    aim_now : aim_of (now_of p.event out) ≡ (now_of p.event out).history.current
+    aim_now =
+        aim_is (now_of p.event out) t.running ready.passing.going.tab.asked t.goal ready.passing.work.goal ∙ ap (λ (r : Option ReqId). aim_in (now_of p.event out).history r t.goal) paused.idle
+
+    calm_waiting : IsCalmBefore None cause m
+    calm_waiting =
+        by_calm (subst (λ (r : Option ReqId). IsCalmBefore r cause (now_of p.event out)) paused.idle ready.calm)
+      where
+        by_calm : IsCalmBefore None cause (now_of p.event out) → IsCalmBefore None cause m
+        by_calm (inl yet) = inl (paused.left.calms.yet aim_now yet)
+        by_calm (inr around) =
+            inr (around.0, (paused.left.calms.around aim_now around.0 around.1.0, applied_after p.event cause tells out new paused.passing.work.goes (subst (λ (r : Option ReqId). HasPutOut p.event r cause tells out new) paused.idle paused.only) around.0 around.1.1))
+
+    pub waited : HasWaited p new u queue noted cause
+    waited =
         record {
-          passing = passing;
-          empty = ready.empty;
-          header = kept.keep ∙ ready.header;
-          may = left.causes cause ready.open_.may;
-          passed = passed;
-          strays = strays;
-          served = served;
-          told = told;
-          swept = swept_then;
-          calm = calm_then;
-          late = late_then;
-          moved = moved_then;
-          live = live_then;
-          theirs = theirs_then;
-          queueing = queueing_then;
+          idle = no_run;
+          ready = record {
+            passing = paused.passing;
+            empty = ready.empty;
+            header = paused.kept.keep ∙ ready.header;
+            open_ = paused.open_;
+            loads = subst (λ (r : Option ReqId). MayStand r m) (sym no_run) (stand_bare m paused.loads);
+            frees = paused.frees;
+            blamed = left_blamed m noted paused.rows_ (λ nav place doc d at wakes found. own_document u.running p.loads p.hand m paused.passing.going.tab nav place doc d at wakes found) paused.strays;
+            calm = subst (λ (r : Option ReqId). IsCalmBefore r cause m) (sym no_run) calm_waiting;
+            late = late_then new u noted tells paused.passing paused.left paused.only paused.kept;
+            moved = moved_then new u noted tells paused.passing paused.left paused.only paused.kept;
+            live = live_then new u noted tells paused.passing paused.left paused.only paused.kept paused.loads;
+            theirs = theirs_then new u noted tells paused.passing paused.left paused.only paused.kept;
+            queueing = queueing_then new u noted tells paused.passing paused.left paused.only paused.kept;
+          };
         }
 
 -- ---- what was put out
@@ -200,7 +250,7 @@ pass_off e first out new run cause tells off only left =
     off_passed e first out new off (put_only e run cause tells out new only) left.history left.aim
 
 -- before, and by a pass
-pub put_passed : (p : InPass) (first out mid : List RowKind) (u : Tables) → IsPassing p mid u → HasPut p.event first out → HasPut p.event out mid → HasPut p.event first mid
+pub put_passed : {sweeps : Bool} (p : InPass) (first out mid : List RowKind) (u : Tables) → IsPassingIn sweeps p mid u → HasPut p.event first out → HasPut p.event out mid → HasPut p.event first mid
 put_passed p first out mid u passing one two =
     put_then p.event u.running first out mid passing.work.goes passing.going.tab.asked one two
 
@@ -208,3 +258,9 @@ put_passed p first out mid u passing one two =
 pub put_both : (p : InPass) (first out mid new : List RowKind) (u : Tables) → IsPassing p new u → HasPut p.event first out → HasPut p.event out mid → HasPut p.event mid new → HasPut p.event first new
 put_both p first out mid new u passing one two three =
     put_then p.event u.running first out new passing.work.goes passing.going.tab.asked one (put_then p.event u.running out mid new passing.work.goes passing.going.tab.asked two three)
+
+-- where more was put out behind it, more was since the beginning
+pub grown_since : (e : InEvent) (first out new : List RowKind) → HasPut e first out → length out < length new → length first < length new
+grown_since e first out new put more =
+    let long : length out ≡ length first + length put.more = ap (λ (l : List RowKind). length l) put.is ∙ length-append first put.more in
+    omega (arith, long, more)

@@ -2,7 +2,9 @@
 -- HTML Standard, "apply the history step" and "session history traversal queue"; what is held back, and that all this goes by passes, is this project's own.
 use Rattle.log_model.specs.Places.{aim_of, all_stand}
 use Rattle.tab_releases.specs.Releasing.{InPass, IsPassing, LoadsMadeOwn, MayCause, Tables}
-pub use Rattle.tab_releases.specs.Releasing.{HoldsParked, IsTurning}
+pub use Rattle.tab_doors.specs.Working.{MayDiscardIn}
+pub use Rattle.tab_releases.specs.PassedOn.{FreesVisited, IsPassingIn}
+pub use Rattle.tab_releases.specs.Releasing.{HoldsParked, IsTurning, IsWaiting}
 use Rattle.tab_facts.specs.Calm.Calm.{AreRooted, IsCalm, IsCalmAround, IsCalmYet, UnmovedAreHere}
 use Rattle.tab_facts.specs.Frame.Lasting.{wish}
 use Rattle.row_facts.specs.FrameRows.Lawful.{has_traversed, held_at_first}
@@ -11,7 +13,7 @@ use Rattle.tab_facts.specs.Order.Orders.{IsOfCoord, AreOrders}
 use Rattle.tab_facts.specs.FrameTab.Asking.{NoneHeld}
 use Rattle.log_model.specs.ActsAtOnce.{ends_told}
 use Rattle.seen_facts.specs.LoadEnds.Standing.{is_off}
-use Rattle.log_model.specs.Causes.{takes_report}
+use Rattle.log_model.specs.Causes.{nav_of_change, takes_report}
 use Rattle.log_model.specs.Equal.{has_req}
 use Rattle.log_model.specs.History.{has_nav}
 use Rattle.log_model.specs.LoadsEndInTime.{is_begun_load}
@@ -29,7 +31,7 @@ use Rattle.seen_laws.specs.InEvent.{InEvent, now_of}
 use Rattle.tab_releases.specs.PassedOn.{IsNoneDue, IsToAsk}
 use Rattle.seen_laws.specs.Unasked.{is_question}
 use Rattle.std.specs.Prelude.{Bool, List, None, Option, Some, [], false, length, not, true, ℕ, ◌++◌, ◌+◌, ◌≡◌, ◌⊎◌, if◌then◌else◌}
-use Rattle.tab_releases.specs.PassedOn.{AreBlamed, AreLeftStrays, HasPassed, HasQueue, IsLoadApplied, IsOpen, LoadsLive, MayStand, show_why}
+use Rattle.tab_releases.specs.PassedOn.{AreBlamed, AreLeftStrays, HasPassed, HasQueue, IsOpen, LoadsLive, MayStand, show_why}
 use Rattle.tab_facts.specs.TabEvents.Between.{AreSwept, orders_go}
 use Rattle.tab_ids.specs.declared.DocId.{DocId}
 use Rattle.tab_ids.specs.declared.NavId.{NavId}
@@ -146,7 +148,7 @@ pub record MayRelease (e : InEvent) (out : List RowKind) : Type 0 where
 
 -- the queue has what waits and what is held back; nothing is where no traversal runs, or once one has ended in the event; and what is may be taken up, where all stand at the aim
 pub record IsQueueing (p : InPass) (out : List RowKind) (t : Tables) (queue : Queue) : Type 0 where
-  pub turning : IsTurning p.event out
+  pub waits : IsWaiting p.event out
   pub queued : HasQueue (now_of p.event out) t.running queue.waiting
   pub parked : HoldsParked (now_of p.event out) queue.parked
   pub held : NoneHeld t.running (now_of p.event out)
@@ -164,11 +166,21 @@ NoneRunsWhileHeld holds run = holds ≡ true → run ≡ None
 
 -- ---- how calm the tab is
 
--- the cause is a load that was applied last, of this navigable
+-- the request is the last load with a new document that was applied, by a change of the navigable; not all have stood since
+pub record IsLastLoad (s : Seen) (at : NavId) (req : ReqId) : Type 0 where
+  pub mover : Asked
+  pub found : request_of s req ≡ Some mover
+  pub change : Change
+  pub changed : mover.change ≡ Some change
+  pub its : nav_of_change change ≡ Some at
+  pub last : s.last_step ≡ Some req
+  pub unstood : s.has_stood ≡ false
+
+-- the cause is that load, of this navigable
 pub record IsAppliedFor (cause : Why) (s : Seen) (at : NavId) : Type 0 where
   pub req : ReqId
   pub for_ : cause ≡ whys.Req req
-  pub last : IsLoadApplied s at req
+  pub last : IsLastLoad s at req
 
 -- before a pass for a cause: where no traversal runs it is calm but for navigables without an entry, or around one of which a load, the cause, was just applied; where one does, whom it hasn't moved is where it is to be, and who is awake is rooted
 abbrev pub IsCalmBefore : Option ReqId → Why → Seen → Type 0
@@ -189,13 +201,14 @@ MovedAreShown run s =
 
 -- ---- from pass to pass
 
--- a pass may follow, whose orders are for this cause; nothing is at hand, and ongoing loads live on
-pub record IsReady (p : InPass) (out : List RowKind) (t : Tables) (queue : Queue) (blame : List (StateId × ReqId)) (cause : Why) : Type 0 where
-  pub passing : IsPassing p out t
+-- a pass may follow, whose orders are for this cause; nothing is at hand, and ongoing loads live on; so it is where documents are swept, too
+pub record IsReadyIn (sweeps : Bool) (p : InPass) (out : List RowKind) (t : Tables) (queue : Queue) (blame : List (StateId × ReqId)) (cause : Why) : Type 0 where
+  pub passing : IsPassingIn sweeps p out t
   pub empty : p.hand ≡ []
   pub header : t.kept.keep ≡ p.event.header.keep
   pub open_ : IsOpen p.event t.running cause (now_of p.event out)
   pub loads : MayStand t.running (now_of p.event out)
+  pub frees : FreesVisited p.event (now_of p.event out)
   pub blamed : AreBlamed (now_of p.event out) blame
   pub calm : IsCalmBefore t.running cause (now_of p.event out)
   pub late : LateKnown t.running (now_of p.event out)
@@ -203,6 +216,15 @@ pub record IsReady (p : InPass) (out : List RowKind) (t : Tables) (queue : Queue
   pub live : LoadsLive (now_of p.event out)
   pub theirs : LoadsMadeOwn (now_of p.event out)
   pub queueing : IsQueueing p out t queue
+
+-- where none are
+abbrev pub IsReady : InPass → List RowKind → Tables → Queue → List (StateId × ReqId) → Why → Type 0
+IsReady p out t queue blame cause = IsReadyIn false p out t queue blame cause
+
+-- no traversal runs, and the walk waits, since documents were discarded that may have been asked
+pub record HasWaited (p : InPass) (out : List RowKind) (t : Tables) (queue : Queue) (blame : List (StateId × ReqId)) (cause : Why) : Type 0 where
+  pub idle : t.running ≡ None
+  pub ready : IsReadyIn true p out t queue blame cause
 
 -- a pass has gone by: who is visited is served, who is awake was told, no document is stray or an order is on its way, and for each stray one that is left a request is noted; ongoing loads live on; orders may be for the cause
 pub record HasSettled (p : InPass) (out : List RowKind) (t : Tables) (queue : Queue) (blame : List (StateId × ReqId)) (cause : Why) : Type 0 where

@@ -1,9 +1,9 @@
 //! One pass after the other, until nothing is due.
-ghost use Rattle.std.specs.Prelude.{◌≡◌, OnOk, false};
+ghost use Rattle.std.specs.Prelude.{◌≡◌, ◌<◌, IfOk, OnOk, false, length, true};
 ghost use Rattle.seen_laws.specs.InEvent.{log_of};
 ghost use Rattle.tab_releases.specs.Releasing.{InPass};
 ghost use Rattle.slot_facts.specs.Slots.{AreSlots};
-ghost use Rattle.tab_settles.specs.Settling.{HasPut, HasSettled, IsOver, IsReady, LeavesOff, NoneRunsWhileHeld};
+ghost use Rattle.tab_settles.specs.Settling.{HasPut, HasSettled, HasWaited, IsOver, IsReady, LeavesOff, MayDiscardIn, NoneRunsWhileHeld};
 
 use crate::reasons::Reasons;
 use crate::turning::take_turn;
@@ -16,7 +16,7 @@ use tab_doors::Tables;
 use tab_ids::{DocId, ReqId, StateId};
 use tab_releases::pass;
 
-/// Brings the tab to rest: loads give way, stray documents are discarded, who needs it is shown a document or has one made, who is awake is told length and index; the traversal that runs ends where all stand, with what was held back for it, and the next step of the queue has its turn; then once more, until nothing is due. Where a traversal in its check holds the queue (`holds`), no step has its turn, and a traversal that is to ask somebody before it begins waits on: there the tab rests, too. `slots` has the slots of the unload handlers. HTML Standard, "apply the history step" and "session history traversal queue".
+/// Brings the tab to rest: loads give way, stray documents are discarded, who needs it is shown a document or has one made, who is awake is told length and index; the traversal that runs ends where all stand, with what was held back for it, and the next step of the queue has its turn; then once more, until nothing is due. Where a traversal in its check holds the queue (`holds`), no step has its turn, and a traversal that is to ask somebody before it begins waits on: there the tab rests, too. Where a request is in its check (`asks`) and documents were discarded before a walk, that walk waits: answers whether the tab rests. `slots` has the slots of the unload handlers. HTML Standard, "apply the history step" and "session history traversal queue".
 pub fn settle(
     alloc: Global,
     header: &Header,
@@ -27,14 +27,20 @@ pub fn settle(
     out: &mut Out,
     reasons: &mut Reasons,
     holds: bool,
-) -> Result<(), OutOfMemory>
+    asks: bool,
+) -> Result<bool, OutOfMemory>
     ghost p: { InPass }
     requires header { header.now ≡ p.event.header }
     requires ready { IsReady p out.old tables.old queue.old blame.old.entries reasons.old.cause }
     requires alone { NoneRunsWhileHeld holds tables.old.running }
     requires slots { AreSlots (log_of p.event out.old) slots.now.entries }
-    ensures settled { OnOk result (HasSettled p out.new tables.new queue.new blame.new.entries reasons.new.cause) }
-    ensures due { OnOk result (holds ≡ false → IsOver p.event out.new tables.new.running queue.new.waiting) }
+    requires free { holds ≡ false → MayDiscardIn false p.event }
+    requires bare { asks ≡ false → MayDiscardIn false p.event }
+    ensures settled { IfOk result (λ rests. rests ≡ true → HasSettled p out.new tables.new queue.new blame.new.entries reasons.new.cause) }
+    ensures due { IfOk result (λ rests. rests ≡ true → holds ≡ false → IsOver p.event out.new tables.new.running queue.new.waiting) }
+    ensures asked { IfOk result (λ rests. rests ≡ false → asks ≡ true) }
+    ensures grown { IfOk result (λ rests. rests ≡ false → length out.old < length out.new) }
+    ensures paused { IfOk result (λ rests. rests ≡ false → HasWaited p out.new tables.new queue.new blame.new.entries reasons.new.cause) }
     ensures alone { OnOk result (NoneRunsWhileHeld holds tables.new.running) }
     ensures put { OnOk result (HasPut p.event out.old out.new) }
     ensures off { OnOk result (LeavesOff p.event out.old out.new) }
@@ -42,9 +48,13 @@ pub fn settle(
 {
     'passes: loop {
         let (cause, tells) = (reasons.cause, reasons.tells());
-        pass(alloc, header, tables, blame, out, cause, tells)?;
-        if !take_turn(alloc, tables, queue, blame, slots, out, reasons, holds)? {
-            return Ok(());
+        let went = pass(alloc, header, tables, blame, out, cause, tells, asks)?;
+        if !went {
+            return Ok(false);
+        }
+        let had = take_turn(alloc, tables, queue, blame, slots, out, reasons, holds)?;
+        if !had {
+            return Ok(true);
         }
     }
 }

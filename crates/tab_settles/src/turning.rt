@@ -4,7 +4,7 @@ ghost use Rattle.seen_laws.specs.InEvent.{log_of, now_of};
 ghost use Rattle.tab_releases.specs.Releasing.{InPass};
 ghost use Rattle.tab_releases.specs.PassedOn.{IsNoneDue};
 ghost use Rattle.slot_facts.specs.Slots.{AreSlots};
-ghost use Rattle.tab_settles.specs.Settling.{HasPut, HasSettled, HasTurned, IsOver, IsReady, NoneRunsWhileHeld, turns_left};
+ghost use Rattle.tab_settles.specs.Settling.{HasPut, HasSettled, HasTurned, IsOver, IsReady, MayDiscardIn, NoneRunsWhileHeld, turns_left};
 
 use crate::reasons::Reasons;
 use address::OutOfMemory;
@@ -28,6 +28,7 @@ fn finish(
     ghost p: { InPass }
     requires at { HasSettled p out.old tables.old queue.old blame.old.entries reasons.old.cause }
     requires runs { is_some tables.old.running ≡ true }
+    requires free { MayDiscardIn false p.event }
     ensures ready { IfOk result (λ ended. ended ≡ true → IsReady p out.new tables.new queue.new blame.new.entries reasons.new.cause) }
     ensures fewer { IfOk result (λ ended. ended ≡ true → turns_left tables.new.running queue.new.waiting < turns_left tables.old.running queue.old.waiting) }
     ensures turned { IfOk result (λ ended. ended ≡ true → HasTurned p.event out.old out.new) }
@@ -61,6 +62,7 @@ fn begin(
     requires at { HasSettled p out.old tables.old queue.old blame.old.entries reasons.old.cause }
     requires idle { tables.old.running ≡ None }
     requires slots { AreSlots (log_of p.event out.old) slots.now.entries }
+    requires free { MayDiscardIn false p.event }
     ensures ready { IfOk result (λ did. did ≡ true → IsReady p out.new tables.new queue.new blame.new.entries reasons.new.cause) }
     ensures fewer { IfOk result (λ did. did ≡ true → turns_left tables.new.running queue.new.waiting < turns_left tables.old.running queue.old.waiting) }
     ensures turned { IfOk result (λ did. did ≡ true → HasTurned p.event out.old out.new) }
@@ -99,6 +101,7 @@ pub(crate) fn take_turn(
     requires at { HasSettled p out.old tables.old queue.old blame.old.entries reasons.old.cause }
     requires alone { NoneRunsWhileHeld holds tables.old.running }
     requires slots { AreSlots (log_of p.event out.old) slots.now.entries }
+    requires free { holds ≡ false → MayDiscardIn false p.event }
     ensures ready { IfOk result (λ did. did ≡ true → IsReady p out.new tables.new queue.new blame.new.entries reasons.new.cause) }
     ensures fewer { IfOk result (λ did. did ≡ true → turns_left tables.new.running queue.new.waiting < turns_left tables.old.running queue.old.waiting) }
     ensures turned { IfOk result (λ did. did ≡ true → HasTurned p.event out.old out.new) }

@@ -45,7 +45,7 @@ use Rattle.tab_settles.specs.Settling.{HoldsParked, IsQueueing}
 pub use Rattle.tab_settles.specs.Settling.{MayRelease}
 use Rattle.tab_stands.proofs.Begun.{begun}
 use Rattle.tab_stands.proofs.Coming.{OnlyArrives}
-use Rattle.tab_stands.proofs.Reports.{told, told_comes, told_going, told_held, told_kept, told_moved, told_now, told_rests, told_row, told_tied, told_turning}
+use Rattle.tab_stands.proofs.Reports.{told, told_comes, told_going, told_held, told_kept, told_moved, told_now, told_rests, told_row, told_tied, told_waiting}
 use Rattle.tab_stands.specs.Delivering.{IsSeenDelivery, IsQuietTask}
 use Rattle.tab_stands.specs.Standing.{HasBegun, HasLogged, HasRoomFor, InCheck, IsOwnRead, StandsFor, seen_start}
 use Rattle.seen_facts.specs.Transit.Orders.{IsOutcomeOf}
@@ -155,7 +155,7 @@ module _ (e : InEvent) (proc : ProcId) (job : Job) (outcome : Outcome) (del : Is
       pub did_queueing : e.before ≡ [] → (left : Queue) → HasQueue did t.running left.waiting → left.parked ≡ queue.parked → IsQueueing (record { event = e; loads = check.loads; hand = [] }) [] u left
       did_queueing uncut left queued parked =
           record {
-            turning = told_turning e proc del.by_coord del.own t queue blame stands aside report del.first same did_tab.known uncut;
+            waits = told_waiting e proc del.by_coord del.own t queue blame stands aside report del.first same did_tab.known uncut;
             queued = subst (λ (r : Option ReqId). HasQueue (now_of e []) r left.waiting) (sym kept.running) (subst (λ (x : Seen). HasQueue x t.running left.waiting) (sym did_now) queued);
             parked = parked ∙ did_holds_parked;
             held = λ idle. subst (λ (x : Seen). x.parked ≡ []) (sym did_now) (did_parked ∙ stands.between.held (sym kept.running ∙ idle));

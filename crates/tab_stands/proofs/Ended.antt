@@ -1,5 +1,7 @@
 -- An event of the coordinator ends as the tab has come to rest: the coordinator stands for what the log has come to, and each row passes.
-use Rattle.tab_doors.proofs.Works.{plain_now}
+use Rattle.asking_facts.proofs.Closing.{pass_tied}
+use Rattle.asking_facts.specs.Known.{AskingKnown}
+use Rattle.asking_facts.specs.Noting.{IsAllTied}
 use Rattle.tab_doors.proofs.Works.{aimed_log}
 use Rattle.tab_doors.proofs.PassedOn.{paid_read}
 use Rattle.seen_laws.proofs.InEvents.{now_is}
@@ -25,25 +27,27 @@ use Rattle.row_facts.proofs.Owed.Ends.{owed_paid}
 use Rattle.seen_facts.proofs.Rest.Seated.{all_has}
 use Rattle.seen_laws.specs.Blocks.{EachPass, Here}
 use Rattle.seen_laws.specs.InEvent.{InEvent, IsPaid, IsTakenIn, later_of, log_of, now_of, own_of, rows_of, start_of}
-use Rattle.std.proofs.Common.{Bool, List, None, Option, Some, [], false, refl, subst, sym, true, ℕ, ◌==◌, ◌∙◌, ◌≡◌}
+use Rattle.std.proofs.Common.{Bool, List, None, Option, Some, [], false, refl, subst, sym, true, ℕ, ◌==◌, ◌≡◌}
 use Rattle.std.specs.List.{list_all}
 use Rattle.std.specs.Prelude.{is_some, option_and_then}
-use Rattle.tab_doors.proofs.PassedOn.{pass_end, plain_nobody}
-use Rattle.tab_doors.specs.PassedOn.{noted_by}
-use Rattle.tab_doors.specs.Working.{IsAhead, IsAtWork, StartsPlain}
+use Rattle.tab_doors.specs.PassedOn.{told_by}
+use Rattle.tab_doors.specs.Working.{IsAhead, IsAtWork}
 use Rattle.tab_doors.specs.declared.tables.Tables.{Tables}
 use Rattle.tab_facts.specs.TabEvents.Between.{IsBetweenChecks}
 use Rattle.tab_ids.specs.declared.DocId.{DocId}
 use Rattle.tab_ids.specs.declared.ReqId.{ReqId}
 use Rattle.tab_ids.specs.declared.StateId.{StateId}
+use Rattle.unload_check.specs.Checks.{OpenCheck}
 use Rattle.tab_settles.specs.PassedOn.{InPass, IsTab}
 use Rattle.tab_settles.proofs.PassedOn.{stepped}
 use Rattle.tab_settles.proofs.Ended.{IsNoneDue}
 use Rattle.tab_settles.specs.Settling.{HasSettled, MakesServe, NoneRunsWhileHeld, OrdersAreSound}
+use Rattle.tab_stands.proofs.Checked.{checks_end, known_end}
 use Rattle.tab_stands.proofs.EpochRows.{event_under}
 use Rattle.tab_stands.proofs.LateEvents.{off_of}
+use Rattle.tab_stands.specs.Checked.{ChecksStand, told_all}
 use Rattle.tab_stands.specs.Offs.{AreShownOnce, AreShownUnder}
-use Rattle.tab_stands.specs.Standing.{HasActed, InCheck, Lasts, LastsInLog}
+use Rattle.tab_stands.specs.Standing.{HasActed, InCheck, Lasts, LastsInLog, StandsFor}
 
 -- where all were told what is due, each was told something
 each_told : (s : Seen) → ends_told s ≡ true → EachIsTold s
@@ -79,22 +83,69 @@ paid_log e out work paid = rw (own_owes (start_of e) e.event e.actor e.own (log_
         paid_read e out (log_of e out) (aimed_log e out _ work) work.checks.others work.numbered work.read work.sole work.debts
         (subst (λ (s : Seen). owes_seen e out s ≡ true) (now_is e out) paid)
 
--- what a coordinator at work has of its tables
-pub work_tied : (p : InPass) (out : List RowKind) (t : Tables) → IsAtWork p.event out t → AreTied (now_of p.event out) t
-work_tied p out t work =
-    record { holds = work.holds; runs = work.runs; goal = work.goal; few = work.few; initial = work.initial; loads = work.loads; kept = work.kept }
+-- what a coordinator at work has of its tables, whatever their checks
+told_tied : (p : InPass) (out : List RowKind) (t : Tables) (checks : List (ReqId × OpenCheck)) → IsAtWork p.event out t → AreTied (now_of p.event out) (record t { checks = checks })
+told_tied p out t checks work =
+    record {
+      holds = record {
+        navs = work.holds.navs;
+        documents = work.holds.documents;
+        whose = work.holds.whose;
+        shown = work.holds.shown;
+        last = work.holds.last;
+        history = work.holds.history;
+        numbered = work.holds.numbered;
+        states = work.holds.states;
+        entries = work.holds.entries;
+        sent = work.holds.sent;
+      };
+      runs = work.runs;
+      goal = work.goal;
+      few = work.few;
+      initial = work.initial;
+      loads = work.loads;
+      kept = work.kept;
+    }
 
-module _ (p : InPass) (out : List RowKind) (t : Tables) (queue : Queue) (blame : List (StateId × ReqId)) (cause : Why) (waits : Bool) (alone : NoneRunsWhileHeld waits t.running) (at : HasSettled p out t queue blame cause) (makes : MakesServe (now_of p.event out)) (sound : OrdersAreSound (now_of p.event out)) (of_coord : (row : RowKind) → Has out row → IsOfCoord row) (shows : AreShownUnder (log_of p.event [])) (starts : StartsPlain p.event) where
+-- so they stand for the log whatever their checks
+pub as_stands : (check : InCheck) (s : Seen) (t : Tables) (checks : List (ReqId × OpenCheck)) (queue : Queue) (blame : List (StateId × ReqId)) → StandsFor check s (record t { checks = checks }) queue blame → StandsFor check s t queue blame
+as_stands check s t checks queue blame stands =
+    record {
+      between = stands.between;
+      alone = stands.alone;
+      lasts = stands.lasts;
+      tied = record {
+        holds = record {
+          navs = stands.tied.holds.navs;
+          documents = stands.tied.holds.documents;
+          whose = stands.tied.holds.whose;
+          shown = stands.tied.holds.shown;
+          last = stands.tied.holds.last;
+          history = stands.tied.holds.history;
+          numbered = stands.tied.holds.numbered;
+          states = stands.tied.holds.states;
+          entries = stands.tied.holds.entries;
+          sent = stands.tied.holds.sent;
+        };
+        runs = stands.tied.runs;
+        goal = stands.tied.goal;
+        few = stands.tied.few;
+        initial = stands.tied.initial;
+        loads = stands.tied.loads;
+        kept = stands.tied.kept;
+      };
+      strays = stands.strays;
+      queue = stands.queue;
+      parked = stands.parked;
+    }
+
+module _ (p : InPass) (out : List RowKind) (t : Tables) (queue : Queue) (blame : List (StateId × ReqId)) (cause : Why) (waits : Bool) (alone : NoneRunsWhileHeld waits t.running) (at : HasSettled p out t queue blame cause) (makes : MakesServe (now_of p.event out)) (sound : OrdersAreSound (now_of p.event out)) (of_coord : (row : RowKind) → Has out row → IsOfCoord row) (shows : AreShownUnder (log_of p.event [])) (known : AskingKnown (log_of p.event [])) (settled : IsAllTied (log_of p.event out) (told_all t.checks out)) where
   abbrev s : Seen
   s = now_of p.event out
 
   -- what is in its check then: the loads that are at hand still, and one traversal or none, as before
   abbrev check : InCheck
   check = record { loads = p.loads; holds = waits }
-
-  -- nobody was asked so far
-  plain : log_of p.event out ≡ s
-  plain = plain_now p.event out at.passing.work.goes starts
 
   tab : IsTab t.running p.loads [] s
   tab =
@@ -122,15 +173,15 @@ module _ (p : InPass) (out : List RowKind) (t : Tables) (queue : Queue) (blame :
   paid : IsPaid p.event out
   paid = paid_log p.event out at.passing.work (owed_paid p.event out at.passing.owed)
 
-  -- each row passes
+  -- each row passes, as each check that is settled has its prompt up
   passes : IsTakenIn p.event (later_of p.event out) → EachPass (start_of p.event) (rows_of p.event out) []
   passes taken =
-      pass_end (IsAhead None) p.event (noted_by t.checks out) out at.passing.work.lawful tt paid taken at.queueing.over (plain_nobody p.event.checking (log_of p.event out) (sym (plain ∙ now_is p.event out)))
+      pass_tied (IsAhead None) p.event out (told_by t.checks out) at.passing.work.asked at.passing.work.lawful tt paid taken at.queueing.over settled
 
   -- what lasts of the log itself
   lasts_log : IsTakenIn p.event (later_of p.event out) → LastsInLog p.event.checking (log_of p.event out)
   lasts_log taken =
-      record { checks = at.passing.work.checks; shows = event_under p.event out (passes taken).1 of_coord shows; duly = at.passing.duly }
+      record { checks = at.passing.work.checks; shows = event_under p.event out (passes taken).1 of_coord shows; duly = at.passing.duly; known = known_end p.event out at.passing.work.goes of_coord (passes taken) known }
 
   -- navigables are the same in both
   once : IsTakenIn p.event (later_of p.event out) → AreShownOnce s.places
@@ -156,18 +207,24 @@ module _ (p : InPass) (out : List RowKind) (t : Tables) (queue : Queue) (blame :
         off = off_of s shown at.passing.going.tab.standing t.running at.calm at.late;
       }
 
-  pub acted : (waits ≡ false → IsNoneDue s t.running queue.waiting) → IsTakenIn p.event (later_of p.event out) → HasActed check p.event out t queue blame
+  -- the table that was told of all that was discarded stands for the log
+  asks : IsTakenIn p.event (later_of p.event out) → ChecksStand p.event.checking (log_of p.event out) (told_all t.checks out)
+  asks taken =
+      checks_end p.event out t.checks at.passing.work.asked settled at.passing.work.calm
+
+  pub acted : (waits ≡ false → IsNoneDue s t.running queue.waiting) → IsTakenIn p.event (later_of p.event out) → HasActed check p.event out (record t { checks = told_all t.checks out }) queue blame
   acted due taken =
       record {
         stands = record {
           between = between due;
           alone = alone;
           lasts = lasts (once taken);
-          tied = work_tied p out t at.passing.work;
+          tied = told_tied p out t (told_all t.checks out) at.passing.work;
           strays = at.strays;
           queue = at.queueing.queued;
           parked = at.queueing.parked;
         };
         lasts = lasts_log taken;
+        asks = asks taken;
         passes = passes taken;
       }

@@ -39,7 +39,7 @@ use Rattle.tab_stands.proofs.Coming.{aim_same}
 use Rattle.tab_stands.proofs.Dones.{held_first}
 use Rattle.tab_stands.proofs.Goes.{await_more, steps_more, tab_more, traverses_more}
 use Rattle.tab_stands.proofs.Mades.{IsMadeFor, heard, heard_begun, heard_comes, heard_documents, heard_first, heard_now, heard_parked, heard_places, heard_requests, heard_tied, its_asked, its_nav, its_plain}
-use Rattle.tab_stands.proofs.Reports.{told_held, told_turning}
+use Rattle.tab_stands.proofs.Reports.{told_held, told_waiting}
 use Rattle.tab_stands.proofs.Waiting.{off_where_runs}
 use Rattle.tab_stands.specs.Delivering.{IsSeenDelivery, IsToldOf}
 use Rattle.tab_stands.specs.Standing.{HasBegun, HasLogged, HasRoomFor, InCheck, IsOwnRead, StandsFor, seen_start}
@@ -135,7 +135,7 @@ module _ (e : InEvent) (proc : ProcId) (report : Report) (made : Made) (del : Is
     queueing_free : e.before ≡ [] → (ids : List Made) → IsTab t.running check.loads ids n → (left : Queue) → HasQueue n t.running left.waiting → left.parked ≡ queue.parked → IsQueueing (record { event = e; loads = check.loads; hand = ids }) [] t left
     queueing_free uncut ids tab left queued parked =
         record {
-          turning = told_turning e proc del.by_coord del.own t queue blame stands aside report del.first same tab.known uncut;
+          waits = told_waiting e proc del.by_coord del.own t queue blame stands aside report del.first same tab.known uncut;
           queued = subst (λ (x : Seen). HasQueue x t.running left.waiting) (sym now) queued;
           parked = parked ∙ stands.parked ∙ sym (unheld_then s e.event proc made (heard_first e proc report made del tells t queue blame stands aside) free) ∙ ap (λ (x : Seen). held_back x.requests x.parked) (sym now);
           held = λ idle. ap (λ (x : Seen). x.parked) now ∙ parked_same ∙ stands.between.held idle;
@@ -220,7 +220,7 @@ module _ (e : InEvent) (proc : ProcId) (report : Report) (made : Made) (del : Is
     pub parked_begun : HasLogged e t.checks → HasRoomFor (seen_start e) → t.kept.keep ≡ e.header.keep → (left : Queue) → left ≡ record queue { parked = queue.parked ++ made ∷ [] } → HasBegun (record { event = e; loads = check.loads; hand = [] }) t left blame
     parked_begun logged room header left pushed =
         heard_begun e proc report made del tells t queue blame stands aside logged room header [] tab_held held_more left (record {
-          turning = told_turning e proc del.by_coord del.own t queue blame stands aside report del.first same tab_held.known logged.logged.uncut;
+          waits = told_waiting e proc del.by_coord del.own t queue blame stands aside report del.first same tab_held.known logged.logged.uncut;
           queued = subst (λ (x : Seen). HasQueue x t.running left.waiting) (sym now) (subst (λ (l : List QueueStep). HasQueue n t.running l) (sym (ap (λ (q : Queue). q.waiting) pushed)) (queue_still (unqueued s [] e.event actors.Coord proc report made del.first tells no_go)));
           parked = ap (λ (q : Queue). q.parked) pushed ∙ ap (λ (l : List Made). l ++ made ∷ []) stands.parked ∙ sym (held_then s e.event proc made (heard_first e proc report made del tells t queue blame stands aside) asked.q asked.there asked.makes held) ∙ ap (λ (x : Seen). held_back x.requests x.parked) (sym now);
           held = λ idle. absurd (busy idle);

@@ -1,4 +1,5 @@
 pub mod Orders
+pub mod Checked
 pub mod Ended
 pub mod Ready
 pub mod Coming

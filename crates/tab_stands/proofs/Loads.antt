@@ -21,13 +21,13 @@ use Rattle.tab_doors.specs.declared.tables.Tables.{Tables}
 use Rattle.tab_ids.specs.declared.NavId.{NavId}
 use Rattle.tab_ids.specs.declared.ReqId.{ReqId}
 use Rattle.tab_ids.specs.declared.StateId.{StateId}
-use Rattle.tab_settles.specs.Settling.{IsTurning}
+use Rattle.tab_settles.specs.Settling.{IsWaiting}
 use Rattle.tab_stands.proofs.Accepting.{comes_now, goes_on, new, now, number_low, old_or_new, rests_now, tied_now}
 use Rattle.tab_stands.proofs.Begun.{begun}
 use Rattle.tab_stands.proofs.Coming.{aim_same}
 use Rattle.tab_stands.proofs.Waiting.{queued_still, queueing_now}
 use Rattle.tab_stands.specs.Standing.{HasBegun, HasLogged, HasRoomFor, InCheck, IsOwnRead, StandsFor, seen_start}
-use Rattle.tab_settles.proofs.PassedOn.{load_accepted, load_accepted_tab, turning_first}
+use Rattle.tab_settles.proofs.PassedOn.{load_accepted, load_accepted_tab, waiting_first}
 use Rattle.log_model.specs.declared.request.Request.TheVariants as requests
 use Rattle.log_model.specs.declared.row_kind.Actor.TheVariants as actors
 use Rattle.log_model.specs.declared.row_kind.RowKind.TheVariants as rows
@@ -60,9 +60,9 @@ module _ (e : InEvent) (t : Tables) (queue : Queue) (blame : List (StateId × Re
             inr (grind (arith, nat_tests, low, many))
         by_old (inr it) = inl (ap (λ (x : Asked). denial_at_acceptance e.start x.what) it.1 ∙ admitted)
 
-    turning : IsTurning e []
-    turning =
-        turning_first e logged.logged.uncut (subst (λ (x : Seen). AreKnown x) (sym (now e req None load by_user own nr aside)) tab.known) (λ r q has at. early r q (ap (λ (x : Seen). request_of x r) (sym (now e req None load by_user own nr aside)) ∙ at))
+    waits : IsWaiting e []
+    waits =
+        waiting_first e logged.logged.uncut (subst (λ (x : Seen). AreKnown x) (sym (now e req None load by_user own nr aside)) tab.known) (λ r q has at. early r q (ap (λ (x : Seen). request_of x r) (sym (now e req None load by_user own nr aside)) ∙ at))
 
     queued : HasQueue (now_of e []) t.running queue.waiting
     queued =
@@ -81,4 +81,4 @@ module _ (e : InEvent) (t : Tables) (queue : Queue) (blame : List (StateId × Re
         (goes_on e req None load by_user own nr aside t queue blame stands room (λ x never. absurd cc) (req ∷ check.loads) tab)
         (rests_now e req None load by_user own nr aside t queue blame stands)
         (comes_now e req None load by_user own nr aside t queue blame stands)
-        (queueing_now e req None load by_user own nr aside t queue blame stands logged.logged.uncut (req ∷ check.loads) queue aim turning queued refl)
+        (queueing_now e req None load by_user own nr aside t queue blame stands logged.logged.uncut (req ∷ check.loads) queue aim waits queued refl)

@@ -1,5 +1,10 @@
 -- An event in which nobody was asked: what is known of the log once its own row was logged.
 use Rattle.tab_doors.proofs.Uncut.{uncut_pass, uncut_now}
+use Rattle.asking_facts.proofs.Passed.{known_on}
+use Rattle.asking_facts.specs.Asking.{AsksBegun}
+use Rattle.asking_facts.specs.Known.{AskingKnown}
+use Rattle.asking_facts.specs.Prompting.{AnswersPrompt, PromptsWanted}
+use Rattle.asking_facts.specs.Waiting.{GoesWaiting}
 use Rattle.checking_facts.proofs.Rows.{row_checks}
 use Rattle.checking_facts.specs.Checks.{AreInCheck, GoesDuly}
 use Rattle.checking_facts.specs.States.{LeavesStates}
@@ -35,7 +40,7 @@ use Rattle.tab_ids.specs.declared.StateId.{StateId}
 use Rattle.tab_stands.proofs.DulyEvents.{own_duly}
 use Rattle.tab_stands.proofs.EpochRows.{own_under, refused_under}
 use Rattle.tab_doors.proofs.PassedOn.{AreNumbered, lawful_pass, nobody_duly, plain_nobody}
-use Rattle.tab_doors.proofs.Works.{none_steps, start_here}
+use Rattle.tab_doors.proofs.Works.{none_steps, start_here, steps_calm}
 use Rattle.tab_doors.specs.PassedOn.{NobodyAsked, NoneChecked, noted_by}
 use Rattle.tab_doors.specs.Working.{IsAhead}
 use Rattle.load_doors.specs.Logged.{IsLogged, IsOwnRead}
@@ -73,14 +78,14 @@ module _ (e : InEvent) (aside : StartsUnasked e) where
           read = own_read;
           numbered = numbered;
           checking = checking;
-          unheld = none_steps e.checking aside.unchecked (log_of e []);
+          calm = steps_calm e.checking (log_of e []) (none_steps e.checking aside.unchecked (log_of e []));
           asked = nobody_duly e.checking e.start (log_of e []) checks start_nobody (plain_nobody e.checking (log_of e []) (sym (aside.plain ∙ now_is e []))) checking.numbered checking.others aside.unchecked none;
         }
 
   -- and where the own row may be logged by itself
   pub with_lawful : (checks : List (ReqId × OpenCheck)) → IsLogged e checks → LastsInLog e.checking (log_of e []) → AreLegal e [] → HasLogged e checks
   with_lawful checks logged lasts legal =
-      record { logged = logged; lasts = lasts; lawful = lawful_pass (IsAhead None) e (noted_by checks []) [] (lawful_legal e [] legal); plain = aside.plain }
+      record { logged = logged; lasts = lasts; lawful = lawful_pass (IsAhead None) e (noted_by checks []) [] (lawful_legal e [] legal) }
 
 -- ---- what lasts of the log, over an event's own row
 
@@ -92,26 +97,53 @@ leaves_own checking s (rows.Evicted state) is = tt
 leaves_own checking s (rows.Delivered proc) is = tt
 leaves_own checking s _ is = absurd (let never : false ≡ true = is in cc)
 
+-- such a row sends and finishes no order, and asks the user nothing
+asks_none : (s : Seen) (kind : RowKind) → leads kind ≡ true → AsksBegun s kind
+asks_none s (rows.Accepted req doc what) is = tt
+asks_none s (rows.Answered req stay) is = tt
+asks_none s (rows.Evicted state) is = tt
+asks_none s (rows.Delivered proc) is = tt
+asks_none s _ is = absurd (let never : false ≡ true = is in cc)
+
+waits_none : (s : Seen) (kind : RowKind) → leads kind ≡ true → GoesWaiting s kind
+waits_none s (rows.Accepted req doc what) is = tt
+waits_none s (rows.Answered req stay) is = tt
+waits_none s (rows.Evicted state) is = tt
+waits_none s (rows.Delivered proc) is = tt
+waits_none s _ is = absurd (let never : false ≡ true = is in cc)
+
+wants_none : (s : Seen) (kind : RowKind) → leads kind ≡ true → PromptsWanted s kind
+wants_none s (rows.Accepted req doc what) is = tt
+wants_none s (rows.Answered req stay) is = tt
+wants_none s (rows.Evicted state) is = tt
+wants_none s (rows.Delivered proc) is = tt
+wants_none s _ is = absurd (let never : false ≡ true = is in cc)
+
 module _ (e : InEvent) (uncut : e.before ≡ []) (led : leads e.own ≡ true) (alive : (proc : ProcId) → e.own ≡ rows.Delivered proc → NoDeath (slice_get (desk_of e.start proc).reports 0)) (lasts : LastsInLog e.checking e.start) where
-  own_lasts : GoesDuly e.checking e.start e.own → LastsInLog e.checking (log_of e [])
-  own_lasts goes =
-      record { checks = checks; shows = own_under e uncut led alive lasts.shows; duly = own_duly e uncut led checks.numbered lasts.duly }
+  own_lasts : GoesDuly e.checking e.start e.own → AnswersPrompt e.start e.own → LastsInLog e.checking (log_of e [])
+  own_lasts goes answers =
+      record { checks = checks; shows = own_under e uncut led alive lasts.shows; duly = own_duly e uncut led checks.numbered lasts.duly; known = known }
     where
+      known : AskingKnown (log_of e [])
+      known =
+          subst (λ (x : Seen). AskingKnown x) (sym (uncut_log e uncut))
+          (known_on e.start (row_of e e.own) (asks_none e.start e.own led) (waits_none e.start e.own led) answers (wants_none e.start e.own led) lasts.known)
+
       checks : AreInCheck e.checking (log_of e [])
       checks = subst (λ (x : Seen). AreInCheck e.checking x) (sym (uncut_log e uncut)) (row_checks e.checking e.start (row_of e e.own) goes (leaves_own e.checking e.start e.own led) lasts.checks)
 
   -- of a request that is accepted, which isn't in its check
   pub accepted_lasts : (req : ReqId) (doc : Option DocId) (what : Request) → e.own ≡ rows.Accepted req doc what → req.0 ≡ length e.start.requests + 1 → e.checking req ≡ false → LastsInLog e.checking (log_of e [])
   accepted_lasts req doc what own next outside =
-      own_lasts (subst (λ (k : RowKind). GoesDuly e.checking e.start k) (sym own) (record { next = next; outside = outside }))
+      own_lasts (subst (λ (k : RowKind). GoesDuly e.checking e.start k) (sym own) (record { next = next; outside = outside })) (subst (λ (k : RowKind). AnswersPrompt e.start k) (sym own) tt)
 
   -- of a report that is taken
   pub delivered_lasts : (proc : ProcId) → e.own ≡ rows.Delivered proc → LastsInLog e.checking (log_of e [])
-  delivered_lasts proc own = own_lasts (subst (λ (k : RowKind). GoesDuly e.checking e.start k) (sym own) tt)
+  delivered_lasts proc own = own_lasts (subst (λ (k : RowKind). GoesDuly e.checking e.start k) (sym own) tt) (subst (λ (k : RowKind). AnswersPrompt e.start k) (sym own) tt)
 
   -- of an eviction
   pub evicted_lasts : (state : StateId) → e.own ≡ rows.Evicted state → LastsInLog e.checking (log_of e [])
-  evicted_lasts state own = own_lasts (subst (λ (k : RowKind). GoesDuly e.checking e.start k) (sym own) tt)
+  evicted_lasts state own = own_lasts (subst (λ (k : RowKind). GoesDuly e.checking e.start k) (sym own) tt) (subst (λ (k : RowKind). AnswersPrompt e.start k) (sym own) tt)
 
 -- a refusal behind it
 pub refused_lasts : (e : InEvent) (req : ReqId) (reason : Denial) → LastsInLog e.checking (log_of e []) → LastsInLog e.checking (log_of e (rows.Refused req reason ∷ []))
@@ -120,6 +152,7 @@ refused_lasts e req reason lasts =
       checks = row_checks e.checking (log_of e []) (row_of e (rows.Refused req reason)) tt tt lasts.checks;
       shows = refused_under (log_of e []) e.event e.actor req reason lasts.shows;
       duly = row_duly (log_of e []) e.event e.actor lasts.duly (rows.Refused req reason) tt;
+      known = known_on (log_of e []) (row_of e (rows.Refused req reason)) tt tt tt tt lasts.known;
     })
 
 -- ---- the own row may be logged

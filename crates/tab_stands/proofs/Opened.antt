@@ -1,4 +1,5 @@
 -- The coordinator of a tab that was just opened stands for its log.
+use Rattle.asking_facts.proofs.Passed.{known_nothing, known_on}
 use Rattle.checking_facts.proofs.Rows.{none_checks}
 use Rattle.leave_facts.proofs.Carried.{opened_duly}
 use Rattle.log_model.specs.declared.job.Job.{Job}
@@ -16,7 +17,7 @@ use Rattle.log_model.specs.AfterPlaces.{opening_place}
 use Rattle.log_model.specs.Places.{is_awake, is_given_target, is_shown}
 use Rattle.log_model.specs.History.{History, has_nav, has_state}
 use Rattle.log_model.specs.Order.{SameHistory}
-use Rattle.log_model.specs.Seen.{Asked, Document, Place, Seen, place_in, place_of, request_in, empty_desk}
+use Rattle.log_model.specs.Seen.{Asked, Document, Place, Seen, place_in, place_of, request_in, empty_desk, nothing}
 use Rattle.log_model.specs.declared.row.Row.{Row}
 use Rattle.move_queue.specs.Queue.{Queue}
 use Rattle.nav_tree.specs.Tree.{Tree, document_of as placed_for, is_nav, node_of, top_node}
@@ -46,6 +47,7 @@ use Rattle.tab_stands.proofs.LateEvents.{off_of}
 use Rattle.tab_stands.specs.Offs.{AreShownUnder, IsUnderEpoch, is_new_place}
 use Rattle.tab_stands.specs.Standing.{Lasts, LastsInLog, StandsFor, none_in_check, opened_at}
 use Rattle.log_model.specs.declared.row_kind.Actor.TheVariants as actors
+use Rattle.log_model.specs.declared.row_kind.RowKind.TheVariants as rows
 
 some_same : {A : Type 0} {a b : A} → (let o : Option A = Some a in o) ≡ Some b → a ≡ b
 some_same e = cc
@@ -270,6 +272,7 @@ module _ (address : List ℕ) (proc : ProcId) where
         checks = none_checks checking s refl;
         shows = shows;
         duly = opened_duly 0 actors.Start (record { maker = 0; nr = 1 }) (record { 0 = 1 }) (record { 0 = 1 }) proc None address;
+        known = known_on nothing (record { event = 0; actor = actors.Start; row = rows.Opened (record { maker = 0; nr = 1 }) (record { 0 = 1 }) (record { 0 = 1 }) proc None address }) tt tt tt tt known_nothing;
       }
 
   pub fresh_stands : (keep : ℕ) (t : Tables) (queue : Queue) → IsFresh address proc keep t → queue ≡ record { waiting = []; parked = [] } → StandsFor none_in_check s t queue []

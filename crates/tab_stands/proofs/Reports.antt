@@ -41,14 +41,14 @@ use Rattle.tab_doors.specs.Working.{HasGoal, KeepsRun}
 use Rattle.tab_doors.specs.declared.tables.Tables.{Tables}
 use Rattle.tab_facts.specs.TabEvents.Between.{IsBetweenChecks}
 use Rattle.tab_settles.proofs.Lates.{unstood_by}
-use Rattle.tab_settles.proofs.PassedOn.{AreUpTo, IsBegun, causes_on, fine, serve_on, steps_still, turning_first}
+use Rattle.tab_settles.proofs.PassedOn.{AreUpTo, IsBegun, causes_on, fine, serve_on, steps_still, waiting_first}
 use Rattle.tab_settles.specs.PassedOn.{AreHeldUp, AreLeftStrays, IsGoing, IsStray, IsTab, LoadsMadeOwn, MayCause, count_of, has_ended, has_spent}
 use Rattle.tab_ids.specs.declared.NavId.{NavId}
 use Rattle.tab_ids.specs.declared.ProcId.{ProcId}
 use Rattle.tab_ids.specs.declared.ReqId.{ReqId}
 use Rattle.tab_ids.specs.declared.StateId.{StateId}
 use Rattle.tab_ids.specs.declared.Step.{Step}
-use Rattle.tab_settles.specs.Settling.{IsTurning}
+use Rattle.tab_settles.specs.Settling.{IsWaiting}
 use Rattle.tab_stands.proofs.Accepting.{number_low}
 use Rattle.tab_stands.proofs.Coming.{IsComing, OnlyArrives}
 use Rattle.tab_stands.specs.Standing.{HasRoomFor, InCheck, IsOwnRead, Lasts, StandsFor, seen_start}
@@ -126,8 +126,8 @@ module _ (e : InEvent) (proc : ProcId) (by_coord : e.actor ≡ actors.Coord) (ow
         let many : length s.requests ≡ length e.start.requests = requests_start e in
         inr (grind (arith, nat_tests, low, many))
 
-    pub told_turning : AreKnown told → e.before ≡ [] → IsTurning e []
-    told_turning known uncut = turning_first e uncut (subst (λ (x : Seen). AreKnown x) (sym told_now) known) (λ req q has at. early req q at)
+    pub told_waiting : AreKnown told → e.before ≡ [] → IsWaiting e []
+    told_waiting known uncut = waiting_first e uncut (subst (λ (x : Seen). AreKnown x) (sym told_now) known) (λ req q has at. early req q at)
 
     -- nothing is held back that wasn't before
     pub told_held : told.parked ≡ (seen_start e).parked → AreHeldUp t.running told

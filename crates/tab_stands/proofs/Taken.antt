@@ -33,7 +33,7 @@ use Rattle.std.proofs.Common.{Bool, List, None, Option, Some, [], ap, false, inl
 use Rattle.std.proofs.lemmas.Bool.{or_left}
 use Rattle.std.specs.List.{list_any}
 use Rattle.std.specs.Prelude.{option_map}
-use Rattle.tab_settles.proofs.PassedOn.{queue_over, turning_on}
+use Rattle.tab_settles.proofs.PassedOn.{queue_over, waiting_on}
 use Rattle.tab_settles.specs.PassedOn.{HasQueue, HasTaken, IsByItsOwn, IsPassing, LoadsMadeOwn, is_new_entry}
 use Rattle.tab_doors.specs.declared.tables.Tables.{Tables}
 use Rattle.tab_ids.specs.declared.DocId.{DocId}
@@ -47,14 +47,14 @@ use Rattle.tab_settles.proofs.Lates.{KeepsStep, late_epoch, off_still, step_then
 use Rattle.tab_settles.proofs.Ended.{IsEnding, ends_turn, is_ending, mades_same}
 use Rattle.tab_settles.proofs.MovedTurns.{IsUnmoving, only_reach, reach, shown_over, turn_unmoving}
 use Rattle.tab_settles.specs.Offs.{IsLate, LateKnown}
-use Rattle.tab_settles.specs.Settling.{IsCalmAfter, IsQueueing, IsReady, MayRelease, MovedAreShown}
+use Rattle.tab_settles.specs.Settling.{IsCalmAfter, IsQueueing, IsReady, MayRelease, MovedAreShown, MayDiscardIn}
 use Rattle.tab_stands.proofs.Coming.{IsComing}
 use Rattle.tab_stands.proofs.Epochs.{old_by}
 use Rattle.tab_stands.proofs.Hands.{hand_release}
 use Rattle.tab_stands.proofs.LateEnds.{IsNoStep, step_ended}
 use Rattle.tab_stands.proofs.LateEvents.{late_not_all, late_off, step_coming}
 use Rattle.tab_stands.proofs.Mades.{IsMadeFor, heard, heard_comes, heard_documents, heard_now, heard_places, heard_requests, its_asked, its_plain}
-use Rattle.tab_stands.proofs.Ready.{calm_before}
+use Rattle.tab_stands.proofs.Ready.{calm_before, frees_open}
 use Rattle.tab_stands.proofs.Reports.{told_row}
 use Rattle.tab_stands.proofs.Taking.{begun, there_now, unparked_now, unstarted}
 use Rattle.tab_stands.specs.Delivering.{IsSeenDelivery, IsToldOf}
@@ -115,7 +115,7 @@ module _ (e : InEvent) (proc : ProcId) (report : Report) (made : Made) (del : Is
   queueing : IsQueueing (record { event = e; loads = check.loads; hand = [] }) out u queue
   queueing =
       record {
-        turning = turning_on e [] out (inl parked_out) its.wishes (λ req has. ap (λ (l : List ReqId). has_req l req) (sym joined_out) ∙ has) first.queueing.turning;
+        waits = waiting_on e [] out (inl parked_out) its.wishes (λ req has. ap (λ (l : List ReqId). has_req l req) (sym joined_out) ∙ has) first.queueing.waits;
         queued = subst (λ (r : Option ReqId). HasQueue n r queue.waiting) (sym taken.kept.running) (queue_over f n taken.queue t.running queue.waiting first.queueing.queued);
         parked = first.queueing.parked ∙ sym (held_alike f.requests n.requests f.parked (mades_same f n its.wishes)) ∙ ap (λ (l : List ReqId). held_back n.requests l) (sym parked_out);
         held = λ idle. parked_out ∙ first.queueing.held (sym taken.kept.running ∙ idle);
@@ -234,14 +234,15 @@ module _ (e : InEvent) (proc : ProcId) (report : Report) (made : Made) (del : Is
       by_run (Some run) calm off = tt
       by_run None calm off = late_one calm off
 
-  pub taken_ready : IsReady (record { event = e; loads = check.loads; hand = [] }) out u queue noted (whys.Req made.req)
-  taken_ready =
+  pub taken_ready : (check.holds ≡ false → MayDiscardIn false e) → IsReady (record { event = e; loads = check.loads; hand = [] }) out u queue noted (whys.Req made.req)
+  taken_ready bare =
       record {
         passing = passing;
         empty = refl;
         header = taken.kept.keep ∙ header;
         open_ = taken.open_.open_ (whys.Req made.req) taken.cause;
         loads = taken.open_.loads;
+        frees = frees_open e check.holds u.running n (λ held. taken.kept.running ∙ stands.alone held) bare taken.open_.open_;
         blamed = taken.open_.blamed;
         calm = calm_before u.running (whys.Req made.req) n taken.open_.calm taken.open_.unmoved taken.open_.rooted;
         late = late;

@@ -23,7 +23,7 @@ use Rattle.tab_ids.specs.declared.DocId.{DocId}
 use Rattle.tab_ids.specs.declared.ReqId.{ReqId}
 use Rattle.tab_ids.specs.declared.StateId.{StateId}
 use Rattle.tab_settles.proofs.PassedOn.{passed_is, running_is}
-use Rattle.tab_settles.specs.Settling.{IsQueueing, IsTurning, NoneRunsWhileHeld}
+use Rattle.tab_settles.specs.Settling.{IsQueueing, IsWaiting, NoneRunsWhileHeld}
 use Rattle.tab_stands.proofs.Accepting.{new, now, old_or_new, parked_now, stays, went}
 use Rattle.tab_stands.specs.Standing.{InCheck, IsOwnRead, StandsFor, seen_start}
 use Rattle.log_model.specs.declared.row_kind.Actor.TheVariants as actors
@@ -129,10 +129,10 @@ module _ (e : InEvent) (req : ReqId) (doc : Option DocId) (what : Request) (by_u
           cc
 
   -- all that is asked of what waits
-  pub queueing_now : e.before ≡ [] → (ids : List ReqId) (left : Queue) → aim_of (now_of e []) ≡ aim_of s → IsTurning e [] → HasQueue (now_of e []) t.running left.waiting → left.parked ≡ queue.parked → IsQueueing (record { event = e; loads = ids; hand = [] }) [] t left
-  queueing_now uncut ids left aim turning queued parked =
+  pub queueing_now : e.before ≡ [] → (ids : List ReqId) (left : Queue) → aim_of (now_of e []) ≡ aim_of s → IsWaiting e [] → HasQueue (now_of e []) t.running left.waiting → left.parked ≡ queue.parked → IsQueueing (record { event = e; loads = ids; hand = [] }) [] t left
+  queueing_now uncut ids left aim waits queued parked =
       record {
-        turning = turning;
+        waits = waits;
         queued = queued;
         parked = parked ∙ parked_now e req doc what by_user own nr aside t queue blame stands;
         held = held_now;

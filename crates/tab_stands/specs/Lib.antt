@@ -1,4 +1,5 @@
 pub mod Offs
+pub mod Checked
 pub mod Standing
 pub mod Delivering
 pub mod Poking

@@ -1,5 +1,6 @@
 -- What a coordinator of a tab with loads keeps between two events, and how an event of it begins and ends.
 -- HTML Standard, "session history traversal queue", "apply the history step" and "checking if unloading is canceled"; that nobody dies in such a tab is this project's own premise.
+use Rattle.asking_facts.specs.Known.{AskingKnown}
 use Rattle.checking_facts.specs.Checks.{AreInCheck}
 use Rattle.leave_facts.proofs.Carried.{AreLeftDuly}
 use Rattle.load_doors.specs.Logged.{IsLogged}
@@ -27,6 +28,7 @@ use Rattle.tab_ids.specs.declared.ReqId.{ReqId}
 use Rattle.tab_ids.specs.declared.StateId.{StateId}
 use Rattle.tab_settles.specs.Settling.{HoldsParked, IsCalmAfter, MakesServe, MovedAreShown, NoneRunsWhileHeld, OrdersAreSound}
 use Rattle.tab_settles.specs.Offs.{LateKnown}
+use Rattle.tab_stands.specs.Checked.{ChecksStand}
 use Rattle.tab_stands.specs.Offs.{AreOffKnown, AreShownUnder}
 pub use Rattle.tab_settles.specs.Settling.{IsQueueing}
 use Rattle.log_model.specs.declared.row_kind.Actor.TheVariants as actors
@@ -57,11 +59,12 @@ pub record Lasts (run : Option ReqId) (s : Seen) : Type 0 where
   -- why a navigable that is shown may not stand
   pub off : AreOffKnown run s
 
--- what lasts of the log itself: it is known who is in a check; which navigables were shown a document, as their epochs tell; and whom requests leave was asked
+-- what lasts of the log itself: it is known who is in a check; which navigables were shown a document, as their epochs tell; whom requests leave was asked; and of questions, prompts and answers it is known what is to be known
 pub record LastsInLog (checking : ReqId → Bool) (s : Seen) : Type 0 where
   pub checks : AreInCheck checking s
   pub shows : AreShownUnder s
   pub duly : AreLeftDuly s
+  pub known : AskingKnown s
 
 -- what is in its unload check between two events: these loads, which are at hand, and one traversal, which holds the queue, or none
 pub record InCheck : Type 0 where
@@ -102,12 +105,11 @@ pub record StartsUnasked (e : InEvent) : Type 0 where
   pub begins : seen_here e [] ≡ here_of e []
   pub plain : StartsPlain e
 
--- the event's own row was logged: what is known then of the log itself, and what lasts of it; the row passes, if what comes later has what it asks; and nobody had been asked so far
+-- the event's own row was logged: what is known then of the log itself, and what lasts of it; and the row passes, if what comes later has what it asks
 pub record HasLogged (e : InEvent) (checks : List (ReqId × OpenCheck)) : Type 0 where
   pub logged : IsLogged e checks
   pub lasts : LastsInLog e.checking (log_of e [])
   pub lawful : AreLawfulFor None e checks []
-  pub plain : StartsPlain e
 
 -- there is room for the requests that an event may accept
 abbrev pub HasRoomFor : Seen → Type 0
@@ -140,8 +142,9 @@ pub record HasIdled (check : InCheck) (e : InEvent) (out : List RowKind) (t : Ta
   pub lasts : LastsInLog e.checking (log_of e out)
   pub passes : EachPass (start_of e) (rows_of e out) []
 
--- the event ends with these rows, each of which passes; the coordinator stands for what the log would have come to had nobody been asked, with this in its check; and what lasts of the log itself lasts
+-- the event ends with these rows, each of which passes; the coordinator stands for what the log would have come to had nobody been asked, with this in its check; what lasts of the log itself lasts, and the table of checks stands for it
 pub record HasActed (check : InCheck) (e : InEvent) (out : List RowKind) (t : Tables) (queue : Queue) (blame : List (StateId × ReqId)) : Type 0 where
   pub stands : StandsFor check (now_of e out) t queue blame
   pub lasts : LastsInLog e.checking (log_of e out)
+  pub asks : ChecksStand e.checking (log_of e out) t.checks
   pub passes : EachPass (start_of e) (rows_of e out) []

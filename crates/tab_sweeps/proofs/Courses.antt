@@ -18,8 +18,8 @@ use Rattle.tab_ids.specs.declared.NavId.{NavId}
 use Rattle.tab_ids.specs.declared.ReqId.{ReqId}
 use Rattle.tab_ids.specs.declared.StateId.{StateId}
 use Rattle.tab_passes.proofs.Leavings.{leaving_none, passing_again}
-use Rattle.tab_passes.specs.Leaving.{IsLeaving}
-use Rattle.tab_passes.specs.Passing.{InPass, IsPassing}
+use Rattle.tab_passes.specs.Leaving.{IsLeavingIn}
+use Rattle.tab_passes.specs.Passing.{InPass, IsPassingIn}
 use Rattle.tab_sweeps.specs.Sweeping.{AreAscending, AreBlamed, HasOnlySwept, IsOnStray, IsSweepOf, IsSweptTurn, NoneStray, StraysAreLeft, but_status, ordered_number}
 use Rattle.tab_sweeps.specs.Turns.{AreStrays, HasSweptEach, HasSweptFirst, HasSweptNext, IsSweeping, IsSweepingAt, numbers_of}
 use Rattle.row_facts.proofs.WalkRows.Sinces.{since_itself}
@@ -161,9 +161,9 @@ module _ (blame : List (StateId × ReqId)) (docs : List DocId) where
 
   -- ---- as it begins, and as it ends
 
-  pub sweep_begins : (p : InPass) (out : List RowKind) (t : Tables) → IsPassing p out t → AreBlamed (now_of p.event out) blame → StraysAreLeft p.event out blame → AreStrays (now_of p.event out) docs → IsSweepingAt p blame docs 0 out t
+  pub sweep_begins : (p : InPass) (out : List RowKind) (t : Tables) → IsPassingIn true p out t → AreBlamed (now_of p.event out) blame → StraysAreLeft p.event out blame → AreStrays (now_of p.event out) docs → IsSweepingAt p blame docs 0 out t
   sweep_begins p out t pass blamed lefts strays =
-      let leaving : IsLeaving p None [] out t = leaving_none p out t pass in
+      let leaving : IsLeavingIn true p None [] out t = leaving_none p out t pass in
       record {
         leaving = record {
           work = leaving.work;
@@ -183,7 +183,7 @@ module _ (blame : List (StateId × ReqId)) (docs : List DocId) where
     ended : IsSweeping p blame [] out t
     ended = subst (λ (l : List DocId). IsSweeping p blame l out t) (drop_of_length-le docs past) so
 
-    pub sweep_passing : IsPassing p out t
+    pub sweep_passing : IsPassingIn true p out t
     sweep_passing = passing_again p out t ended.leaving ended.loose ended.few
 
     pub sweep_swept : NoneStray (now_of p.event out)

@@ -31,7 +31,7 @@ use Rattle.tab_ids.specs.declared.StateId.{StateId}
 use Rattle.tab_passes.proofs.Goings.{goes_on}
 use Rattle.tab_passes.proofs.Serveds.{served_causes}
 use Rattle.tab_passes.specs.Causes.{MayCause, MayServe}
-use Rattle.tab_passes.specs.Leaving.{IsLeaving}
+use Rattle.tab_passes.specs.Leaving.{IsLeavingIn}
 use Rattle.tab_passes.specs.Passing.{InPass}
 use Rattle.tab_sweeps.proofs.Loads.{unloaded_same}
 use Rattle.tab_sweeps.proofs.MayLeaves.{may_leave_looks, way_same}
@@ -60,7 +60,7 @@ without_has doc x (d ∷ docs) apart = by_tests (d.0 == doc.0) refl (without_has
     by_tests false other rest = rw other (ap (λ (b : Bool). (d.0 == x.0) || b) rest)
 
 -- in s, the document being a stray one
-module _ (p : InPass) {left : List DocId} (out : List RowKind) (t : Tables) (leaving : IsLeaving p None left out t) (doc : DocId) (state : StateId) (stray : IsStray (now_of p.event out) doc state) (why : Why) where
+module _ {sweeps : Bool} (p : InPass) {left : List DocId} (out : List RowKind) (t : Tables) (leaving : IsLeavingIn sweeps p None left out t) (doc : DocId) (state : StateId) (stray : IsStray (now_of p.event out) doc state) (why : Why) where
   abbrev s : Seen
   s = now_of p.event out
 
@@ -232,7 +232,7 @@ module _ (p : InPass) {left : List DocId} (out : List RowKind) (t : Tables) (lea
 
   -- ---- the row was put out
 
-  module _ (new : List RowKind) (u : Tables) (is : new ≡ out ++ rows.Sent discard ∷ []) {then_left : List DocId} (leaving_ : IsLeaving p None then_left new u) where
+  module _ (new : List RowKind) (u : Tables) (is : new ≡ out ++ rows.Sent discard ∷ []) {then_left : List DocId} (leaving_ : IsLeavingIn sweeps p None then_left new u) where
     pub now_is : then_ ≡ now_of p.event new
     now_is = sym (ap (λ (x : List RowKind). now_of p.event x) is ∙ sent_now p.event out discard refl)
 

@@ -32,7 +32,7 @@ use Rattle.tab_ids.specs.declared.DocId.{DocId}
 use Rattle.tab_ids.specs.declared.NavId.{NavId}
 use Rattle.tab_ids.specs.declared.StateId.{StateId}
 use Rattle.tab_passes.proofs.Lives.{IsThereFor, has_state_in, keyed_found, live_parts, there_for}
-use Rattle.tab_passes.specs.Leaving.{IsLeaving}
+use Rattle.tab_passes.specs.Leaving.{IsLeavingIn}
 use Rattle.tab_passes.specs.Passing.{InPass}
 use Rattle.tab_sweeps.proofs.Lists.{ascends, keyed_once, of_passes, ordered_has, ordered_times, passes_of, some_ascend, times}
 use Rattle.tab_sweeps.proofs.Loads.{log_unloaded, state_unloaded}
@@ -46,7 +46,7 @@ state_held state held history same =
     ∙ ap (nat_lt 0) (sym (count_by-ordered (λ (row : Row). row.state.0 == state.0) held.rows) ∙ ap (count_by (λ (row : Row). row.state.0 == state.0)) same.rows ∙ count_by-ordered (λ (row : Row). row.state.0 == state.0) history.rows)
     ∙ any_counted (λ (row : Row). row.state.0 == state.0) history.rows
 
-module _ (p : InPass) (move : Option Move) {left : List DocId} (out : List RowKind) (t : Tables) (leaving : IsLeaving p move left out t) where
+module _ {sweeps : Bool} (p : InPass) (move : Option Move) {left : List DocId} (out : List RowKind) (t : Tables) (leaving : IsLeavingIn sweeps p move left out t) where
   abbrev s : Seen
   s = now_of p.event out
 

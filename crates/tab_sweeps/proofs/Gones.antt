@@ -28,7 +28,7 @@ use Rattle.tab_ids.specs.declared.StateId.{StateId}
 use Rattle.tab_passes.proofs.Fews.{fewer as shorter}
 use Rattle.tab_passes.proofs.LeftFor.{off_on}
 use Rattle.tab_passes.specs.Causes.{MayCause, MayServe}
-use Rattle.tab_passes.specs.Leaving.{IsLeaving, left_then}
+use Rattle.tab_passes.specs.Leaving.{IsLeavingIn, left_then}
 use Rattle.tab_passes.specs.Passing.{InPass}
 use Rattle.tab_sweeps.proofs.Discards.{causes_then, leaves_then, now_is, stray_apart, stray_still, stray_was, under_then}
 use Rattle.tab_sweeps.proofs.Lists.{first_apart}
@@ -87,7 +87,7 @@ module _ (p : InPass) (blame : List (StateId × ReqId)) (doc : DocId) (rest : Li
 
   -- ---- the row was put out
 
-  module _ (new : List RowKind) (u : Tables) (is : new ≡ out ++ rows.Sent discard ∷ []) (keeps : KeepsStore t u) (leaving_ : IsLeaving p None (left_then s doc (doc ∷ rest)) new u) where
+  module _ (new : List RowKind) (u : Tables) (is : new ≡ out ++ rows.Sent discard ∷ []) (keeps : KeepsStore t u) (leaving_ : IsLeavingIn true p None (left_then s doc (doc ∷ rest)) new u) where
     then_is : then_ ≡ now_of p.event new
     then_is = now_is p out t so.leaving doc state stray why new u is leaving_
 

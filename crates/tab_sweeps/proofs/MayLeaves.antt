@@ -21,7 +21,7 @@ use Rattle.std.specs.Prelude.{option_map}
 use Rattle.tab_doors.proofs.Leavable.{IsInLog, in_log, placed_log}
 use Rattle.tab_doors.proofs.LogDues.{checked_off, found_from}
 use Rattle.tab_doors.specs.Keeping.{Move}
-use Rattle.tab_doors.specs.Working.{IsAtWorkFor}
+use Rattle.tab_doors.specs.Working.{IsAtWorkIn}
 use Rattle.tab_doors.specs.declared.tables.Tables.{Tables}
 use Rattle.tab_ids.specs.declared.DocId.{DocId}
 use Rattle.tab_ids.specs.declared.NavId.{NavId}
@@ -117,7 +117,7 @@ may_leave_looks s t req nav may looks =
 
 -- ---- so the document is left duly
 
-module _ {move : Option Move} (e : InEvent) (out : List RowKind) (t : Tables) (work : IsAtWorkFor move e out t) (each : EachAsked IsAskedPlainly (now_of e out).requests) (duly : AreLeftDuly (log_of e out)) where
+module _ {sweeps : Bool} {move : Option Move} (e : InEvent) (out : List RowKind) (t : Tables) (work : IsAtWorkIn sweeps move e out t) (each : EachAsked IsAskedPlainly (now_of e out).requests) (duly : AreLeftDuly (log_of e out)) where
   abbrev n : Seen
   n = now_of e out
 

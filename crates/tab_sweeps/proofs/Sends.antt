@@ -14,7 +14,7 @@ use Rattle.log_model.specs.declared.row_kind.RowKind.{RowKind}
 use Rattle.nav_tree.specs.Tree.{is_state, state_of}
 use Rattle.seen_laws.proofs.InEvents.{led_here, now_is}
 use Rattle.seen_laws.specs.InEvent.{InEvent, here_of, now_of}
-use Rattle.std.proofs.Common.{List, None, Option, Some, ap, false, inr, refl, subst, sym, true, ◌∙◌, ◌≡◌}
+use Rattle.std.proofs.Common.{Bool, List, None, Option, Some, ap, false, inr, refl, subst, sym, true, ◌∙◌, ◌≡◌}
 use Rattle.std.specs.Map.{lookup}
 use Rattle.std.specs.Prelude.{is_some}
 use Rattle.tab_doors.proofs.Whose.{proc_found}
@@ -22,7 +22,7 @@ use Rattle.tab_doors.proofs.Leavable.{IsLeftAs, discards_log, gone_log, numbered
 use Rattle.tab_doors.proofs.Works.{numbered}
 use Rattle.tab_doors.specs.Keeping.{Move}
 use Rattle.tab_doors.specs.Orders.{order_to, proc_at}
-use Rattle.tab_doors.specs.Working.{IsAtWorkFor, MaySend}
+use Rattle.tab_doors.specs.Working.{IsAtWorkIn, MaySend}
 use Rattle.tab_doors.specs.declared.tables.Tables.{Tables}
 use Rattle.tab_ids.specs.declared.DocId.{DocId}
 use Rattle.tab_ids.specs.declared.ReqId.{ReqId}
@@ -41,7 +41,7 @@ use Rattle.log_model.specs.declared.job.Task.TheVariants as tasks
 use Rattle.log_model.specs.declared.job.Why.TheVariants as whys
 
 -- an order may be sent to a document of no entry and no load
-stray_ahead : {move : Option Move} (e : InEvent) (out : List RowKind) (t : Tables) (doc : DocId) (d : Document) (by : ReqId) (r : Asked) → IsAtWorkFor move e out t → MayBeLeft (here_of e out) (order_to (now_of e out) doc (whys.Req by) tasks.Discard) → IsDiscardDue (now_of e out) (order_to (now_of e out) doc (whys.Req by) tasks.Discard) d by r → (desk_of (now_of e out) (proc_at (now_of e out) doc)).known ≡ 0 → MaySend None e out (order_to (now_of e out) doc (whys.Req by) tasks.Discard)
+stray_ahead : {sweeps : Bool} {move : Option Move} (e : InEvent) (out : List RowKind) (t : Tables) (doc : DocId) (d : Document) (by : ReqId) (r : Asked) → IsAtWorkIn sweeps move e out t → MayBeLeft (here_of e out) (order_to (now_of e out) doc (whys.Req by) tasks.Discard) → IsDiscardDue (now_of e out) (order_to (now_of e out) doc (whys.Req by) tasks.Discard) d by r → (desk_of (now_of e out) (proc_at (now_of e out) doc)).known ≡ 0 → MaySend None e out (order_to (now_of e out) doc (whys.Req by) tasks.Discard)
 stray_ahead e out t doc d by r work left due known later ahead =
     gone_left_may (here_of e out) e.event e.actor order its.d (led_here e out work.own) (numbered_log e out (now_is e out) order (numbered (now_of e out) (proc_at (now_of e out) doc) doc (whys.Req by) tasks.Discard known)) (gone_log e out t work order d its gone unloaded) later (ahead.1, tt)
   where

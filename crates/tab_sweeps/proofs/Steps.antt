@@ -7,7 +7,7 @@ use Rattle.log_model.specs.declared.row_kind.RowKind.{RowKind}
 use Rattle.nav_tree.proofs.Lists.{drop-slice_get}
 use Rattle.nav_tree.specs.Tree.{is_state, state_of}
 use Rattle.seen_laws.specs.InEvent.{now_of}
-use Rattle.std.proofs.Common.{Bool, List, None, Option, Some, [], ap, drop, subst, sym, ℕ, ◌++◌, ◌+◌, ◌||◌, ◌∙◌, ◌∷◌, ◌≡◌}
+use Rattle.std.proofs.Common.{Bool, List, None, Option, Some, [], ap, drop, subst, sym, ℕ, ◌++◌, ◌+◌, ◌||◌, ◌∙◌, ◌∷◌, ◌≡◌, true}
 use Rattle.std.specs.Map.{lookup}
 use Rattle.std.specs.Prelude.{IsSome, is_some, slice_get}
 use Rattle.tab_doors.specs.Orders.{order_to}
@@ -16,7 +16,7 @@ use Rattle.tab_doors.specs.declared.tables.Tables.{Tables}
 use Rattle.tab_ids.specs.declared.DocId.{DocId}
 use Rattle.tab_ids.specs.declared.ReqId.{ReqId}
 use Rattle.tab_ids.specs.declared.StateId.{StateId}
-use Rattle.tab_passes.specs.Leaving.{IsGoneAt, IsLeaving, MayLeave, left_then}
+use Rattle.tab_passes.specs.Leaving.{IsGoneAt, IsLeavingIn, MayLeave, left_then}
 use Rattle.tab_passes.specs.Passing.{InPass}
 use Rattle.tab_sweeps.proofs.Courses.{sweep_next}
 use Rattle.tab_sweeps.proofs.Founds.{stray_listed}
@@ -66,9 +66,9 @@ module _ (p : InPass) (blame : List (StateId × ReqId)) (docs : List DocId) (i :
       pub step_own : AreOfOwnStates s.documents s.kept doc state
       step_own = stray_own p out t here.leaving doc state stray
 
-      module _ (new : List RowKind) (u : Tables) (made : new ≡ out ++ rows.Sent (order_to s doc (whys.Req req) tasks.Discard) ∷ []) (keeps : KeepsStore t u) (leaving_ : IsLeaving p None (left_then s doc (drop i docs)) new u) where
-        left : IsLeaving p None (left_then s doc (doc ∷ drop (i + 1) docs)) new u
-        left = subst (λ (l : List DocId). IsLeaving p None (left_then s doc l) new u) (drop-slice_get docs i doc at) leaving_
+      module _ (new : List RowKind) (u : Tables) (made : new ≡ out ++ rows.Sent (order_to s doc (whys.Req req) tasks.Discard) ∷ []) (keeps : KeepsStore t u) (leaving_ : IsLeavingIn true p None (left_then s doc (drop i docs)) new u) where
+        left : IsLeavingIn true p None (left_then s doc (doc ∷ drop (i + 1) docs)) new u
+        left = subst (λ (l : List DocId). IsLeavingIn true p None (left_then s doc l) new u) (drop-slice_get docs i doc at) leaving_
 
         pub step_next : IsSweepingAt p blame docs (i + 1) new u
         step_next = swept_next p blame doc rest out t here state stray req noted new u made keeps left

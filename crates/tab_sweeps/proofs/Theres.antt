@@ -7,7 +7,7 @@ use Rattle.log_model.specs.declared.row_kind.RowKind.{RowKind}
 use Rattle.seen_facts.specs.Asked.Asking.{HavePassed}
 use Rattle.seen_facts.proofs.Rest.Still.{found_itself}
 use Rattle.seen_laws.specs.InEvent.{now_of}
-use Rattle.std.proofs.Common.{List, None, Some, ap, arith, false, map, subst, sym, true, ℕ, ◌==◌, ◌∙◌, ◌≡◌}
+use Rattle.std.proofs.Common.{Bool, List, None, Some, ap, arith, false, map, subst, sym, true, ℕ, ◌==◌, ◌∙◌, ◌≡◌}
 use Rattle.std.proofs.lemmas.Bool.Decides.{nat_tests}
 use Rattle.std.specs.Prelude.{find}
 use Rattle.tab_doors.proofs.Sights.{sight_of}
@@ -16,13 +16,13 @@ use Rattle.tab_doors.specs.declared.tables.Tables.{Tables}
 use Rattle.tab_ids.specs.declared.DocId.{DocId}
 use Rattle.tab_ids.specs.declared.StateId.{StateId}
 use Rattle.tab_passes.proofs.Lives.{listed_at}
-use Rattle.tab_passes.specs.Leaving.{IsGoneAt, IsLeaving}
+use Rattle.tab_passes.specs.Leaving.{IsGoneAt, IsLeavingIn}
 use Rattle.tab_passes.specs.Passing.{InPass}
 use Rattle.tab_sweeps.proofs.Founds.{stray_lives}
 use Rattle.tab_sweeps.proofs.Loads.{table_unloaded}
 use Rattle.tab_sweeps.specs.Sweeping.{IsStray}
 
-module _ (p : InPass) {left : List DocId} (out : List RowKind) (t : Tables) (leaving : IsLeaving p None left out t) (doc : DocId) (state : StateId) (stray : IsStray (now_of p.event out) doc state) where
+module _ {sweeps : Bool} (p : InPass) {left : List DocId} (out : List RowKind) (t : Tables) (leaving : IsLeavingIn sweeps p None left out t) (doc : DocId) (state : StateId) (stray : IsStray (now_of p.event out) doc state) where
   abbrev s : Seen
   s = now_of p.event out
 

@@ -12,7 +12,7 @@ use Rattle.tab_doors.specs.declared.tables.Tables.{Tables}
 use Rattle.tab_ids.specs.declared.DocId.{DocId}
 use Rattle.tab_ids.specs.declared.ReqId.{ReqId}
 use Rattle.tab_ids.specs.declared.StateId.{StateId}
-use Rattle.tab_passes.specs.Leaving.{IsLeaving}
+use Rattle.tab_passes.specs.Leaving.{IsLeavingIn}
 use Rattle.tab_passes.specs.Passing.{InPass}
 use Rattle.tab_sweeps.specs.Sweeping.{AreAscending, AreBlamed, IsStray, IsSweepOf, StraysAreLeft, ordered_number}
 
@@ -33,7 +33,7 @@ pub record AreStrays (s : Seen) (docs : List DocId) : Type 0 where
 
 -- these are still to be discarded, and no other document is to be frozen or discarded
 pub record IsSweeping (p : InPass) (blame : List (StateId × ReqId)) (docs : List DocId) (out : List RowKind) (t : Tables) : Type 0 where
-  pub leaving : IsLeaving p None docs out t
+  pub leaving : IsLeavingIn true p None docs out t
   pub loose : all_stand (now_of p.event out) (aim_of (now_of p.event out)) ≡ true → IsLoose p.event out
   pub few : length (now_of p.event out).kept ≤ t.kept.keep
   pub blamed : AreBlamed (now_of p.event out) blame

@@ -1,10 +1,10 @@
 //! The stray documents are discarded.
-ghost use Rattle.std.specs.Prelude.{◌≡◌, ◌+◌, IsSome, OnOk, Some};
+ghost use Rattle.std.specs.Prelude.{◌≡◌, ◌+◌, IsSome, OnOk, Some, true};
 ghost use Rattle.nav_tree.specs.Tree.{is_state, state_of};
 ghost use Rattle.seen_laws.specs.InEvent.{now_of};
 ghost use Rattle.std.specs.Map.{lookup};
 ghost use Rattle.tab_doors.specs.Working.{KeepsStore};
-ghost use Rattle.tab_passes.specs.Passing.{InPass, IsPassing};
+ghost use Rattle.tab_passes.specs.Passing.{InPass, IsPassingIn};
 ghost use Rattle.tab_sweeps.specs.Sweeping.{AreBlamed, HasOnlySwept, IsSweptTurn, NoneStray, StraysAreLeft};
 ghost use Rattle.tab_sweeps.specs.Turns.{AreStrays, HasSweptNext, InSweep, IsSweepTurn, IsSweepingAt};
 
@@ -73,11 +73,11 @@ fn sweep_each(
     strays: &Docs,
 ) -> Result<(), OutOfMemory>
     ghost p: { InPass }
-    requires passing { IsPassing p out.old tables.old }
+    requires passing { IsPassingIn true p out.old tables.old }
     requires blamed { AreBlamed (now_of p.event out.old) blame.now.entries }
     requires lefts { StraysAreLeft p.event out.old blame.now.entries }
     requires strays { AreStrays (now_of p.event out.old) strays.now }
-    ensures passing { OnOk result (IsPassing p out.new tables.new) }
+    ensures passing { OnOk result (IsPassingIn true p out.new tables.new) }
     ensures swept { OnOk result (NoneStray (now_of p.event out.new)) }
     ensures only { OnOk result (HasOnlySwept (now_of p.event out.old) blame.now.entries out.old out.new) }
     ensures left { OnOk result (IsSweptTurn (now_of p.event out.old) (now_of p.event out.new)) }
@@ -97,10 +97,10 @@ pub fn sweep(
     blame: &IndexMap<StateId, ReqId>,
 ) -> Result<(), OutOfMemory>
     ghost p: { InPass }
-    requires passing { IsPassing p out.old tables.old }
+    requires passing { IsPassingIn true p out.old tables.old }
     requires blamed { AreBlamed (now_of p.event out.old) blame.now.entries }
     requires lefts { StraysAreLeft p.event out.old blame.now.entries }
-    ensures passing { OnOk result (IsPassing p out.new tables.new) }
+    ensures passing { OnOk result (IsPassingIn true p out.new tables.new) }
     ensures swept { OnOk result (NoneStray (now_of p.event out.new)) }
     ensures only { OnOk result (HasOnlySwept (now_of p.event out.old) blame.now.entries out.old out.new) }
     ensures left { OnOk result (IsSweptTurn (now_of p.event out.old) (now_of p.event out.new)) }

@@ -1,10 +1,10 @@
 //! A document that nothing needs as it is made is discarded.
-ghost use Rattle.std.specs.Prelude.{◌≡◌, ◌++◌, ◌∷◌, [], OnOk};
+ghost use Rattle.std.specs.Prelude.{◌≡◌, ◌++◌, ◌∷◌, [], OnOk, false};
 ghost use Rattle.log_model.specs.declared.job.Task.TheVariants as tasks;
 ghost use Rattle.log_model.specs.declared.row_kind.RowKind.TheVariants as rows;
 ghost use Rattle.seen_laws.specs.InEvent.{now_of};
 ghost use Rattle.tab_doors.specs.Orders.{order_to};
-ghost use Rattle.tab_doors.specs.Working.{KeepsStore};
+ghost use Rattle.tab_doors.specs.Working.{KeepsStore, MayDiscardIn};
 ghost use Rattle.tab_passes.specs.Causes.{MayCause};
 ghost use Rattle.tab_passes.specs.Passing.{InPass, IsPassing};
 ghost use Rattle.tab_sweeps.specs.Sweeping.{IsSweptTurn};
@@ -30,6 +30,7 @@ pub fn discard_unneeded(
     requires passing { IsPassing p out.old tables.old }
     requires unneeded { IsUnneeded p.event (now_of p.event out.old) doc state }
     requires may { MayCause (now_of p.event out.old) why }
+    requires free { MayDiscardIn false p.event }
     ensures passing { OnOk result (IsPassing p out.new tables.new) }
     ensures out { OnOk result (out.new ≡ out.old ++ rows.Sent (order_to (now_of p.event out.old) doc why tasks.Discard) ∷ []) }
     ensures left { OnOk result (IsSweptTurn (now_of p.event out.old) (now_of p.event out.new)) }

@@ -153,7 +153,7 @@ module _ (p : InPass) (out : List RowKind) (t : Tables) (passing : IsPassing p o
 
   -- it isn't in its check
   off : e.checking req ≡ false
-  off = turn_off e out (now_is e out) passing.work.checks.begun passing.work.unheld req its.q its.at its.open_ its.goes
+  off = turn_off e out (now_is e out) passing.work.checks.begun (passing.work.unheld turning.free) req its.q its.at its.open_ its.goes
 
   turn : begins_in_turn s req ≡ true
   turn = first_turn s req delta tab.asked stand first
@@ -290,7 +290,7 @@ module _ (p : InPass) (out : List RowKind) (t : Tables) (passing : IsPassing p o
         by_test : (b : Bool) → has_req (held_at_first e) req ≡ b → b ≡ false
         by_test false is = refl
         by_test true is =
-            let never : true ≡ false = sym its.goes ∙ turning.apart req its.q is its.at in absurd cc
+            let never : true ≡ false = sym its.goes ∙ turning.waits.apart req its.q is its.at in absurd cc
 
     pub refuse_due : IsNowhere e out req
     refuse_due =
@@ -300,7 +300,7 @@ module _ (p : InPass) (out : List RowKind) (t : Tables) (passing : IsPassing p o
           at = its.at;
           asks = its.asks;
           open_ = its.open_;
-          early = subst (λ (r : ReqId). (denial_at_acceptance e.start its.q.what ≡ None) ⊎ (nat_lt (length e.start.requests) r.0 ≡ false)) (sym (tab.asked.each req its.q its.at).nr) (turning.early req its.q its.joined its.at);
+          early = subst (λ (r : ReqId). (denial_at_acceptance e.start its.q.what ≡ None) ⊎ (nat_lt (length e.start.requests) r.0 ≡ false)) (sym (tab.asked.each req its.q its.at).nr) (turning.waits.early req its.q its.joined its.at);
           nowhere = nowhere;
           turn = turn;
           unparked = unheld.parked;

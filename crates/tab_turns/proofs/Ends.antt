@@ -206,7 +206,7 @@ module _ (p : InPass) (out : List RowKind) (t : Tables) (passing : IsPassing p o
         by_test : (b : Bool) → has_req (held_at_first e) req ≡ b → b ≡ false
         by_test false is = refl
         by_test true is =
-            let never : true ≡ false = sym its.goes ∙ turning.apart req its.q is its.at in absurd cc
+            let never : true ≡ false = sym its.goes ∙ turning.waits.apart req its.q is its.at in absurd cc
 
     pub end_due : IsEndDue e out req goal
     end_due =
@@ -218,7 +218,7 @@ module _ (p : InPass) (out : List RowKind) (t : Tables) (passing : IsPassing p o
           passed = tab.asked.passed req its.q its.at;
           stand = stand;
           unparked = only;
-          first = by_either turning.parked;
+          first = by_either turning.waits.parked;
         }
       where
         by_either : (s.parked ≡ held_at_first e) ⊎ (s.parked ≡ []) → (s.parked ≡ held_at_first e) ⊎ ((s.parked ≡ []) × (has_req (held_at_first e) req ≡ false))
@@ -264,7 +264,7 @@ module _ (p : InPass) (out : List RowKind) (t : Tables) (passing : IsPassing p o
       ended_duly =
           duly_then e out (rows.Applied req (changes.Traverse goal)) more out_is
           (bare_alone_duly e.checking (log_of e out) e.event e.actor passing.duly req (changes.Traverse goal) tt (subst (λ (x : Seen). fits x.history (changes.Traverse goal) ≡ true) (now_is e out) fit)
-          (alone_log e.checking (log_of e out) passing.work.unheld passing.work.checks.numbered req (Some req) (subst (λ (x : Seen). OnlyRuns (Some req) x) (now_is e out) tab.asked.only) (λ r is. same r is)))
+          (alone_log e.checking (log_of e out) (passing.work.unheld turning.free) passing.work.checks.numbered req (Some req) (subst (λ (x : Seen). OnlyRuns (Some req) x) (now_is e out) tab.asked.only) (λ r is. same r is)))
         where
           same : (r : ReqId) → is_this (Some req) r ≡ true → (r.0 == req.0) ≡ true
           same r is = grind (arith, nat_tests, is)

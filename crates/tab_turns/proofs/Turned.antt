@@ -27,7 +27,7 @@ use Rattle.tab_doors.proofs.Uncut.{uncut_held}
 use Rattle.std.proofs.Common.{Bool, List, None, Option, Some, [], ap, cond, false, inl, inr, length, not, refl, subst, sym, true, ℕ, ◌==◌, ◌||◌, ◌∙◌, ◌∷◌, ◌≡◌, ◌⊎◌}
 use Rattle.std.specs.Prelude.{nat_lt}
 use Rattle.tab_ids.specs.declared.ReqId.{ReqId}
-use Rattle.tab_turns.specs.Turning.{IsTurning, LeavesAlone}
+use Rattle.tab_turns.specs.Turning.{IsTurning, IsWaiting, LeavesAlone}
 
 -- ---- the causes of orders
 
@@ -100,8 +100,8 @@ all_rest s (r ∷ reqs) are req q has at = by_test (r.0 == req.0) refl has (λ h
     by_test false is h more = more h
 
 -- it is so as the event's own row has come, where what joined isn't refused as it is accepted
-pub turning_first : (e : InEvent) → e.before ≡ [] → AreKnown (now_of e []) → ((req : ReqId) (q : Asked) → has_req (now_of e []).joined req ≡ true → request_of (now_of e []) req ≡ Some q → denial_at_acceptance e.start q.what ≡ None ⊎ (nat_lt (length e.start.requests) req.0 ≡ false)) → IsTurning e []
-turning_first e uncut known early =
+pub waiting_first : (e : InEvent) → e.before ≡ [] → AreKnown (now_of e []) → ((req : ReqId) (q : Asked) → has_req (now_of e []).joined req ≡ true → request_of (now_of e []) req ≡ Some q → denial_at_acceptance e.start q.what ≡ None ⊎ (nat_lt (length e.start.requests) req.0 ≡ false)) → IsWaiting e []
+waiting_first e uncut known early =
     record {
       parked = inl (uncut_held e uncut);
       apart = λ req q held at. all_rest (now_of e []) (now_of e []).parked known.parked req q (subst (λ (l : List ReqId). has_req l req ≡ true) (sym (uncut_held e uncut)) held) at;
@@ -109,14 +109,14 @@ turning_first e uncut known early =
     }
 
 -- it stays so where nobody joins, requests ask as they did, and what is held back is as it was, or nothing is any more
-pub turning_on : (e : InEvent) (out more : List RowKind) → ((now_of e more).parked ≡ (now_of e out).parked) ⊎ ((now_of e more).parked ≡ []) → SameReads wish (now_of e out).requests (now_of e more).requests → ((req : ReqId) → has_req (now_of e more).joined req ≡ true → has_req (now_of e out).joined req ≡ true) → IsTurning e out → IsTurning e more
-turning_on e out more held same fewer turning =
+pub waiting_on : (e : InEvent) (out more : List RowKind) → ((now_of e more).parked ≡ (now_of e out).parked) ⊎ ((now_of e more).parked ≡ []) → SameReads wish (now_of e out).requests (now_of e more).requests → ((req : ReqId) → has_req (now_of e more).joined req ≡ true → has_req (now_of e out).joined req ≡ true) → IsWaiting e out → IsWaiting e more
+waiting_on e out more held same fewer waits =
     record {
-      parked = by_held held turning.parked;
-      apart = λ req q among at. (let w = was req q at in ap (λ (x : Wish). is_traversal x.what) (sym w.2) ∙ turning.apart req w.0 among w.1);
+      parked = by_held held waits.parked;
+      apart = λ req q among at. (let w = was req q at in ap (λ (x : Wish). is_traversal x.what) (sym w.2) ∙ waits.apart req w.0 among w.1);
       early = λ req q joined at. (let w = was req q at in
           subst (λ (x : Wish). denial_at_acceptance e.start x.what ≡ None ⊎ (nat_lt (length e.start.requests) req.0 ≡ false)) w.2
-          (turning.early req w.0 (fewer req joined) w.1));
+          (waits.early req w.0 (fewer req joined) w.1));
     }
   where
     was : (req : ReqId) (q : Asked) → request_of (now_of e more) req ≡ Some q → (p : Asked) × (request_in (now_of e out).requests req ≡ Some p) × (wish p ≡ wish q)
@@ -126,6 +126,11 @@ turning_on e out more held same fewer turning =
     by_held (inr none) either = inr none
     by_held (inl as_it_was) (inl first) = inl (as_it_was ∙ first)
     by_held (inl as_it_was) (inr none) = inr (as_it_was ∙ none)
+
+-- and steps may have their turns still
+pub turning_on : (e : InEvent) (out more : List RowKind) → ((now_of e more).parked ≡ (now_of e out).parked) ⊎ ((now_of e more).parked ≡ []) → SameReads wish (now_of e out).requests (now_of e more).requests → ((req : ReqId) → has_req (now_of e more).joined req ≡ true → has_req (now_of e out).joined req ≡ true) → IsTurning e out → IsTurning e more
+turning_on e out more held same fewer turning =
+    record { waits = waiting_on e out more held same fewer turning.waits; free = turning.free }
 
 -- so it is after such a row
 pub turning_turned : (e : InEvent) (out more : List RowKind) (n : Seen) → now_of e more ≡ n → IsTurned (now_of e out) n → ((req : ReqId) → has_req n.joined req ≡ true → has_req (now_of e out).joined req ≡ true) → IsTurning e out → IsTurning e more

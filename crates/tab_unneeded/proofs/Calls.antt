@@ -3,7 +3,8 @@ use Rattle.load_table.specs.Loads.{HasOneEach}
 use Rattle.log_model.specs.declared.job.Why.{Why}
 use Rattle.log_model.specs.declared.row_kind.RowKind.{RowKind}
 use Rattle.seen_laws.specs.InEvent.{now_of}
-use Rattle.std.proofs.Common.{List, [], ap, subst, sym, ◌++◌, ◌∙◌, ◌∷◌, ◌≡◌}
+use Rattle.tab_doors.specs.Working.{MayDiscardIn}
+use Rattle.std.proofs.Common.{List, [], ap, false, subst, sym, ◌++◌, ◌∙◌, ◌∷◌, ◌≡◌}
 use Rattle.std.specs.Option.{IsSome}
 use Rattle.tab_doors.proofs.Whose.{proc_known}
 use Rattle.tab_doors.specs.Noting.{PlacesOne, WaitsAtItsNav}
@@ -72,9 +73,9 @@ module _ (m : InMade) (doc : DocId) (state : StateId) (why : Why) (its : IsMadeU
               out_as
               ∙ ap (λ (x : DocId). let l : List RowKind = rows.Sent (order_to (now_of m.event []) x why tasks.Discard) ∷ [] in l) (sym its.doc_is)
 
-          pub ready_as : IsReady (record { event = m.event; loads = check.loads; hand = [] }) out v m.queue m.noted whys.Start
-          ready_as =
-              discarded_ready m.event m.proc m.job m.outcome its.tells t m.queue m.noted stands its.aside its.nav state its.address its.initial its.task why its.unasked own_stray u kept passing out v own_out keeps then_ header logged.logged.uncut
+          pub ready_as : MayDiscardIn false m.event → IsReady (record { event = m.event; loads = check.loads; hand = [] }) out v m.queue m.noted whys.Start
+          ready_as free =
+              discarded_ready m.event m.proc m.job m.outcome its.tells t m.queue m.noted stands its.aside its.nav state its.address its.initial its.task why its.unasked own_stray u kept passing out v own_out keeps then_ header logged.logged.uncut free
 
           pub kept_as : KeepsRun t v
           kept_as =

@@ -1,4 +1,5 @@
 -- A document was made and discarded at once: a pass may follow.
+use Rattle.tab_doors.specs.Working.{MayDiscardIn}
 use Rattle.load_doors.proofs.Starts.{requests_start}
 use Rattle.log_model.specs.Queue.{is_traverse}
 use Rattle.seen_facts.specs.Asked.Asking.{ArePlain}
@@ -35,10 +36,10 @@ use Rattle.tab_stands.proofs.Coming.{IsComing, taking_then}
 use Rattle.tab_stands.proofs.Dones.{AsksNone, did, did_joined, did_now, did_parked, did_requests, did_tab, held_first}
 use Rattle.tab_stands.proofs.LateEvents.{late_first}
 use Rattle.tab_stands.proofs.MovedEvents.{moved_coming}
-use Rattle.tab_stands.proofs.PassedOn.{queue_over, turning_on, unheld_first}
+use Rattle.tab_stands.proofs.PassedOn.{queue_over, waiting_on, unheld_first}
 use Rattle.tab_stands.proofs.Placed.{made_asks}
 use Rattle.tab_stands.proofs.Ready.{calm_before}
-use Rattle.tab_stands.proofs.Reports.{between_as, goal_as, lasts_as, told_turning}
+use Rattle.tab_stands.proofs.Reports.{between_as, goal_as, lasts_as, told_waiting}
 use Rattle.tab_stands.specs.Delivering.{IsSeenDelivery}
 use Rattle.tab_stands.specs.PassedOn.{AreUnheld, HasQueue, IsPassing, IsQueueing, IsReady, IsStray, IsTaking, LateKnown, LeavesQueue, MayRelease, MovedAreShown}
 use Rattle.tab_stands.specs.Standing.{InCheck, IsOwnRead, StandsFor, seen_start}
@@ -156,7 +157,7 @@ module _ (e : InEvent) (proc : ProcId) (job : Job) (outcome : Outcome) (del : Is
   queueing : IsQueueing (record { event = e; loads = check.loads; hand = [] }) out v queue
   queueing =
       record {
-        turning = turning_on e [] out (inl parked_first) (λ req. ap (λ (l : List Asked). option_map wish (request_in l req)) requests_first) (λ req has. ap (λ (l : List ReqId). has_req l req) (sym joined_first) ∙ has) (told_turning e proc del.by_coord del.own t queue blame stands aside (reports.Done job outcome None) del.first same (did_tab e proc job outcome del t queue blame stands aside).known uncut);
+        waits = waiting_on e [] out (inl parked_first) (λ req. ap (λ (l : List Asked). option_map wish (request_in l req)) requests_first) (λ req has. ap (λ (l : List ReqId). has_req l req) (sym joined_first) ∙ has) (told_waiting e proc del.by_coord del.own t queue blame stands aside (reports.Done job outcome None) del.first same (did_tab e proc job outcome del t queue blame stands aside).known uncut);
         queued = subst (λ (r : Option ReqId). HasQueue n r queue.waiting) (sym kept_run.running) (queue_over s n leaves t.running queue.waiting stands.queue);
         parked = stands.parked ∙ ap (λ (l : List Asked). held_back l s.parked) (sym requests) ∙ ap (λ (l : List ReqId). held_back n.requests l) (sym parked);
         held = λ idle. parked ∙ stands.between.held (sym kept_run.running ∙ idle);
@@ -166,14 +167,15 @@ module _ (e : InEvent) (proc : ProcId) (job : Job) (outcome : Outcome) (del : Is
 
   -- ---- all of it
 
-  pub discarded_ready : IsReady (record { event = e; loads = check.loads; hand = [] }) out v queue blame whys.Start
-  discarded_ready =
+  pub discarded_ready : MayDiscardIn false e → IsReady (record { event = e; loads = check.loads; hand = [] }) out v queue blame whys.Start
+  discarded_ready free =
       record {
         passing = passing;
         empty = refl;
         header = kept_run.keep ∙ header;
         open_ = taking.open_ whys.Start (λ req never. absurd cc);
         loads = taking.loads;
+        frees = λ at_nav place placed need since. free;
         blamed = taking.blamed;
         calm = calm_before v.running whys.Start n taking.calm taking.unmoved taking.rooted;
         live = taking.live;

@@ -1,11 +1,11 @@
 //! A document that nothing needs is discarded as it is made.
-ghost use Rattle.std.specs.Prelude.{◌≡◌, ◌∷◌, [], OnOk};
+ghost use Rattle.std.specs.Prelude.{◌≡◌, ◌∷◌, [], OnOk, false};
 ghost use Rattle.log_model.specs.declared.job.Task.TheVariants as tasks;
 ghost use Rattle.log_model.specs.declared.job.Why.TheVariants as whys;
 ghost use Rattle.log_model.specs.declared.row_kind.RowKind.TheVariants as rows;
 ghost use Rattle.seen_laws.specs.InEvent.{now_of};
 ghost use Rattle.tab_doors.specs.Orders.{order_to};
-ghost use Rattle.tab_doors.specs.Working.{KeepsRun};
+ghost use Rattle.tab_doors.specs.Working.{KeepsRun, MayDiscardIn};
 ghost use Rattle.tab_stands.specs.PassedOn.{IsReady};
 ghost use Rattle.tab_stands.specs.Standing.{HasLogged, HasRoomFor, StandsFor, seen_start};
 ghost use Rattle.tab_unneeded.specs.Made.{InMade, IsMadeUnneeded, pass_in};
@@ -33,6 +33,7 @@ pub fn discard_made(
     requires stands { StandsFor m.check (seen_start m.event) tables.old m.queue m.noted }
     requires made { IsMadeUnneeded m doc state why }
     requires logged { HasLogged m.event tables.old.checks }
+    requires free { MayDiscardIn false m.event }
     ensures out { OnOk result (out.new ≡ rows.Sent (order_to (now_of m.event []) doc why tasks.Discard) ∷ []) }
     ensures ready { OnOk result (IsReady (pass_in m) out.new tables.new m.queue m.noted whys.Start) }
     ensures kept { OnOk result (KeepsRun tables.old tables.new) }

@@ -159,6 +159,7 @@ module _ (c : InCut) (gone : StateId) (why : Why) (rest docs : List DocId) (doc 
           apart = apart_parts.1;
           kept = subst (λ (x : Seen). x.kept ≡ []) now_is (ap (without_doc doc) so.kept);
           off = off_gone c.pass (Some c.move) out t so.leaving why so.may doc its cut_quiet so.off new u made;
+          free = so.free;
         }
       where
         leaving : IsLeaving c.pass (Some c.move) (without_doc doc rest) new u

@@ -142,6 +142,7 @@ module _ (m : InMove) (out : List RowKind) (t : Tables) (leaving : IsLeaving m.p
         off =
             off_turn m.pass.event out new_out why m.nav quiet_moves (subst (λ (x : Seen). LeavesOthers s x m.nav) now_is (leaves_then_ m out t leaving why may)) (places_distinct s leaving.going.tab.sound leaving.going.tab.hangs) (places_distinct now leaving_.going.tab.sound leaving_.going.tab.hangs) leaving_.going.tab.homes.homed
             (λ other place doc under at up. inl (lefts other place doc under at up)) off;
+        free = may.free;
       }
     where
       quiet_moves : HasOnly IsMoveRow out new_out

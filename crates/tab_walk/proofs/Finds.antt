@@ -133,6 +133,24 @@ module _ (p : InPass) (out : List RowKind) (t : Tables) (pass : IsPassing p out 
 
       -- ---- it leaves one
 
+      leaves_one : (left : DocId) (old : StateId) → left_in t nav doc ≡ Some (left, old) → due.needing.place.last ≡ Some left
+      leaves_one left old leaves =
+          let it : IsLeftFor s nav doc left old = left_some p out t pass nav due.needing.place due.needing.placed doc left old leaves in
+          let both : Some it.place ≡ Some due.needing.place = sym it.placed ∙ due.needing.placed in
+          let here : it.place ≡ due.needing.place = cc in
+          ap (λ (q : Place). q.last) (sym here) ∙ it.last
+
+      -- so it was shown a document before
+      raised : (left : DocId) → due.needing.place.last ≡ Some left → 1 ≤ due.needing.place.epoch.0
+      raised left last = by_epoch due.needing.place.epoch.0 refl
+        where
+          by_epoch : (k : ℕ) → due.needing.place.epoch.0 ≡ k → 1 ≤ due.needing.place.epoch.0
+          by_epoch zero is_ =
+              let none : due.needing.place.last ≡ None = (due.needing.standing.told.0 is_).last in
+              let never : None ≡ Some left = sym none ∙ last in
+              absurd cc
+          by_epoch (suc k) is_ = omega (arith, is_)
+
       bound_from : (keep : ℕ) (cause : Why) → MayMoveTo p t.running keep s nav cause → (left : DocId) (old : StateId) → left_in t nav doc ≡ Some (left, old) → IsBound (in_move p nav cause doc entry left old) t.running s
       bound_from keep cause may left old leaves =
           record {
@@ -180,6 +198,7 @@ module _ (p : InPass) (out : List RowKind) (t : Tables) (pass : IsPassing p out 
             were = may.were;
             loads = may.loads;
             header = may.header;
+            free = may.free due.needing.place due.needing.placed (raised left (leaves_one left old leaves));
             some = some;
           }
         where
@@ -233,6 +252,7 @@ module _ (p : InPass) (out : List RowKind) (t : Tables) (pass : IsPassing p out 
             were = may.were;
             loads = subst (λ (x : StateId). NoLoadBelow s x) it.state_is (may.left_loads it.place left it.document it.placed it.last it.found it.undiscarded);
             header = may.header;
+            free = may.free due.needing.place due.needing.placed (raised left (leaves_one left old leaves));
             none = none;
           }
         where

@@ -30,6 +30,7 @@ room_ready m run now_run keep now_keep s t state beyond why cause nav then_run m
       is_state = ap (λ (r : Row). r.state) target ∙ may.is_state;
       over = over ∙ ap (λ (n : ℕ). drop n (left_first m.state (kept_states s))) (sym keeps) ∙ ap (λ (l : List StateId). drop now_keep (left_first m.state l)) (sym states);
       header = keeps ∙ may.header;
+      free = may.free;
       some = subst (λ (n : ℕ). 1 ≤ n) (sym keeps) may.some;
     }
   where

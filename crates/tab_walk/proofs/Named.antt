@@ -46,6 +46,7 @@ module _ (m : InMove) (out : List RowKind) (t : Tables) (leaving : IsLeaving m.p
         were = may_.were;
         loads = may_.loads;
         none = may_.none;
+        free = may_.free;
         kept = may_.kept;
       }
 

@@ -39,6 +39,7 @@ module _ (m : InMove) (out : List RowKind) (t : Tables) (pass : IsPassing m.pass
         were = may.were;
         loads = may.loads;
         none = sym may.header ∙ may.none;
+        free = may.free;
         kept = none_kept_ s.kept t.kept.keep pass.few may.none;
       }
     where

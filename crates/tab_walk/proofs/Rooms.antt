@@ -35,7 +35,7 @@ use Rattle.tab_moves.specs.PassedOn.{HasOnly, IsLeaving}
 use Rattle.row_facts.specs.Left.Left.{WereShown}
 use Rattle.log_model.specs.Checks.{may_go_on}
 use Rattle.log_model.specs.Seen.{Asked, request_of}
-use Rattle.tab_doors.specs.Working.{KeepsStore}
+use Rattle.tab_doors.specs.Working.{KeepsStore, MayDiscardIn}
 use Rattle.tab_evicts.specs.Evicting.{HasOnlyDiscarded}
 use Rattle.tab_moves.proofs.Frees.{goes_on}
 use Rattle.tab_moves.proofs.Lasts.{live_parts}
@@ -196,14 +196,15 @@ module _ (m : InMove) (out : List RowKind) (t : Tables) (leaving : IsLeaving m.p
   abbrev pub evicting : InEvicting
   evicting = record { pass = m.pass; move = move_of m; left = m.left; state = m.state; new = bound.new }
 
-  pub to_evict : (gone : StateId) (why : Why) → why ≡ show_why t.running m.cause → WereShown s → NoLoadBelowKept s → t.kept.keep ≡ m.pass.event.header.keep → 1 ≤ t.kept.keep → drop t.kept.keep (left_first m.state (kept_states s)) ≡ gone ∷ [] → (gone.0 == bound.target.state.0) ≡ false → IsToEvict evicting gone why s t.kept.keep
-  to_evict gone why for_run were loads header some over differs =
+  pub to_evict : (gone : StateId) (why : Why) → why ≡ show_why t.running m.cause → WereShown s → NoLoadBelowKept s → t.kept.keep ≡ m.pass.event.header.keep → MayDiscardIn false m.pass.event → 1 ≤ t.kept.keep → drop t.kept.keep (left_first m.state (kept_states s)) ≡ gone ∷ [] → (gone.0 == bound.target.state.0) ≡ false → IsToEvict evicting gone why s t.kept.keep
+  to_evict gone why for_run were loads header free some over differs =
       record {
         noted = refl;
         may = subst (λ (w : Why). MayCause s w) (sym for_run) (show_causes s t.running leaving.going.tab.asked m.cause bound.may);
         were = were;
         loads = loads gone (over_kept t.kept.keep m.state gone (kept_states s) some over).0;
         header = header;
+        free = free;
         over = over;
         kept = (over_kept t.kept.keep m.state gone (kept_states s) some over).1;
         nav = m.nav;
@@ -317,7 +318,7 @@ module _ (m : InMove) (out : List RowKind) (t : Tables) (leaving : IsLeaving m.p
     pub other_beyond : (gone.0 == state.0) ≡ false → IsToEvict (evicting_in m at_hand) gone why at_hand t.kept.keep
     other_beyond differs =
         subst (λ (e : InEvicting). IsToEvict e gone why at_hand t.kept.keep) (sym new_is)
-        (to_evict m out t leaving bound_ may.off.sleeps gone why may.for_run may.off.were may.off.loads may.header may.some (sym may.over) (ap (λ (x : StateId). gone.0 == x.0) may.is_state ∙ differs))
+        (to_evict m out t leaving bound_ may.off.sleeps gone why may.for_run may.off.were may.off.loads may.header may.free may.some (sym may.over) (ap (λ (x : StateId). gone.0 == x.0) may.is_state ∙ differs))
 
     -- and was evicted
     pub evicted : (new_out : List RowKind) (u : Tables) → KeepsStore t u → IsEvicting (evicting_in m at_hand) gone why new_out u → HasOnlyDiscarded why out new_out → StaysPlaced at_hand (now_of m.pass.event new_out) → IsLeaving m.pass (Some (move_of m)) [] new_out u × IsToShow (Some (move_of m)) u.running u.kept.keep (now_of m.pass.event new_out) m.nav m.doc m.entry m.cause × IsPart at_hand (now_of m.pass.event new_out) m.nav

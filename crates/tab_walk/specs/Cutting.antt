@@ -9,6 +9,7 @@ use Rattle.log_model.specs.declared.row_kind.RowKind.{RowKind}
 use Rattle.seen_laws.specs.InEvent.{now_of}
 use Rattle.std.specs.Prelude.{List, None, Some, [], false, length, take, true, ℕ, ◌<◌, ◌∷◌, ◌≡◌}
 use Rattle.tab_doors.specs.Keeping.{Move}
+use Rattle.tab_doors.specs.Working.{MayDiscardIn}
 use Rattle.tab_doors.specs.declared.tables.Tables.{Tables}
 use Rattle.tab_evicts.specs.Evicting.{IsGoneFor, IsThereBelow}
 pub use Rattle.tab_evicts.specs.Evicting.{NoLoadBelow}
@@ -56,6 +57,7 @@ pub record IsCutting (c : InCut) (gone : StateId) (why : Why) (rest docs : List 
   pub apart : has_doc docs c.move.doc ≡ false
   pub kept : (now_of c.pass.event out).kept ≡ []
   pub off : OffAreLeft c.pass.event out why
+  pub free : MayDiscardIn false c.pass.event
 
 -- of a list, the turn of one: those that were still to be frozen or discarded at first, and now
 pub record InCutTurn : Type 0 where
@@ -91,6 +93,7 @@ pub record MayCut (m : InMove) (run : Option ReqId) (s : Seen) (nav : NavId) (le
   pub were : WereShown s
   pub loads : NoLoadBelow s m.state
   pub none : m.pass.event.header.keep ≡ 0
+  pub free : MayDiscardIn false m.pass.event
   pub kept : s.kept ≡ []
 
 -- such a move, those that are still to be frozen or discarded once the document that is left is discarded, and the new one as it is
@@ -106,4 +109,5 @@ pub record MayCutFrom (m : InMove) (run : Option ReqId) (keep : ℕ) (s : Seen) 
   pub were : WereShown s
   pub loads : NoLoadBelow s m.state
   pub header : keep ≡ m.pass.event.header.keep
+  pub free : MayDiscardIn false m.pass.event
   pub none : keep ≡ 0

@@ -23,6 +23,7 @@ use Rattle.std.specs.Prelude.{Bool, List, None, Option, Some, [], drop, false, i
 use Rattle.page_cache.specs.Kept.{left_first}
 use Rattle.std.specs.Option.{option_to_list}
 use Rattle.tab_doors.specs.Keeping.{Move}
+use Rattle.tab_doors.specs.Working.{MayDiscardIn}
 use Rattle.tab_moves.specs.Making.{awake_on, show_why}
 use Rattle.seen_facts.specs.Walk.Walking.{LeavesOthers}
 use Rattle.tab_evicts.specs.Evicting.{InEvicting, NoLoadBelow}
@@ -45,11 +46,12 @@ use Rattle.log_model.specs.declared.row_kind.RowKind.TheVariants as rows
 abbrev pub NoLoadBelowKept : Seen → Type 0
 NoLoadBelowKept s = (gone : StateId) → Has (kept_states s) gone → NoLoadBelow s gone
 
--- the navigable may be moved, for a cause; it leaves what it shows for the reason, unless it was never shown a document; and who is awake has an entry
+-- the navigable may be moved, for a cause; it leaves what it shows for the reason, and no step is in its check, unless it was never shown a document; and who is awake has an entry
 pub record MayMoveTo (p : InPass) (run : Option ReqId) (keep : ℕ) (s : Seen) (nav : NavId) (cause : Why) : Type 0 where
   pub may : MayCause s cause
   pub movable : MayBeMoved p.event s nav (show_why run cause)
   pub leaves : (place : Place) → place_of s nav ≡ Some place → 1 ≤ place.epoch.0 → IsLeaver s (show_why run cause) nav
+  pub free : (place : Place) → place_of s nav ≡ Some place → 1 ≤ place.epoch.0 → MayDiscardIn false p.event
   pub rows_ : AreAwakeWithRows s
   pub were : WereShown s
   pub loads : NoLoadBelowKept s
@@ -223,6 +225,7 @@ pub record MayMakeRoom (m : InMove) (run : Option ReqId) (keep : ℕ) (s : Seen)
   pub is_state : off.bound.target.state ≡ state
   pub over : option_to_list gone ≡ drop keep (left_first m.state (kept_states s))
   pub header : keep ≡ m.pass.event.header.keep
+  pub free : MayDiscardIn false m.pass.event
   pub some : 1 ≤ keep
 
 -- ---- all of it, where the document that is left is kept
@@ -239,4 +242,5 @@ pub record MayMoveFrom (m : InMove) (run : Option ReqId) (keep : ℕ) (s : Seen)
   pub were : WereShown s
   pub loads : NoLoadBelowKept s
   pub header : keep ≡ m.pass.event.header.keep
+  pub free : MayDiscardIn false m.pass.event
   pub some : 1 ≤ keep

@@ -1,4 +1,5 @@
 -- The document that the user evicts was discarded: those below it may be, and none of them is awake.
+use Rattle.tab_doors.proofs.Works.{none_steps}
 use Rattle.load_doors.specs.Logged.{IsLogged}
 use Rattle.tab_passes.proofs.PassedOn.{sent_duly}
 use Rattle.unasked.proofs.Nows.{sent_goes, sent_now}
@@ -243,4 +244,5 @@ module _ (e : InEvent) (state : StateId) (asks : IsEvictAsk e state) (t : Tables
           none = subst (λ (x : Seen). NoneBelow x state) now_is none_then;
           moving = λ m never. absurd cc;
           off = λ doc_ d found ready undiscarded shown. inr (λ req never. absurd cc);
+          free = none_steps e.checking aside.unchecked (log_of e []);
         }

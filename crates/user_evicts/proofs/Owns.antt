@@ -41,9 +41,9 @@ use Rattle.tab_stands.proofs.Accepting.{number_low}
 use Rattle.tab_stands.proofs.Coming.{IsComing, aim_same, taking_then}
 use Rattle.tab_stands.proofs.LateEvents.{late_first}
 use Rattle.tab_stands.proofs.MovedEvents.{moved_coming}
-use Rattle.tab_stands.proofs.PassedOn.{queue_over, steps_still, turning_first, unstood_by}
+use Rattle.tab_stands.proofs.PassedOn.{queue_over, steps_still, unstood_by, waiting_first}
 use Rattle.tab_stands.proofs.Waiting.{off_where_runs}
-use Rattle.tab_stands.specs.PassedOn.{AreHeldUp, AreUnheld, HasQueue, HoldsParked, IsGoing, IsLeftStray, IsStray, IsTab, IsTaking, IsTurning, LateKnown, LeavesQueue, LoadsMadeOwn, MayServe, MovedAreShown}
+use Rattle.tab_stands.specs.PassedOn.{AreHeldUp, AreUnheld, HasQueue, HoldsParked, IsGoing, IsLeftStray, IsStray, IsTab, IsTaking, IsWaiting, LateKnown, LeavesQueue, LoadsMadeOwn, MayServe, MovedAreShown}
 use Rattle.tab_stands.specs.Standing.{HasRoomFor, InCheck, LastsInLog, StandsFor, StartsUnasked, seen_start}
 use Rattle.tab_facts.proofs.TabWhole.Beginning.{evicted_tab}
 use Rattle.tab_facts.proofs.TabWhole.Where.{way_unheld}
@@ -199,8 +199,8 @@ module _ (e : InEvent) (state : StateId) (asks : IsEvictAsk e state) (t : Tables
 
   -- ---- what waits, and what is held back
 
-  pub turning_own : IsTurning e []
-  turning_own = turning_first e aside.uncut tab_own.known (λ req q has at. early req q at)
+  pub waiting_own : IsWaiting e []
+  waiting_own = waiting_first e aside.uncut tab_own.known (λ req q has at. early req q at)
     where
       early : (req : ReqId) (q : Asked) → request_of (now_of e []) req ≡ Some q → denial_at_acceptance e.start q.what ≡ None ⊎ (nat_lt (length e.start.requests) req.0 ≡ false)
       early req q at =

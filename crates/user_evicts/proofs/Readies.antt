@@ -1,4 +1,5 @@
 -- The document that is kept longest was discarded for the eviction, with those below it: a pass may follow.
+use Rattle.tab_doors.proofs.Works.{none_steps}
 use Rattle.load_doors.specs.Logged.{IsLogged}
 use Rattle.seen_facts.specs.Asked.Asking.{ArePlain}
 use Rattle.seen_facts.specs.Coord.Leading.{held_back}
@@ -24,12 +25,12 @@ use Rattle.tab_evicts.specs.Evicting.{HasOnlyDiscarded, IsLetting, StaysPlaced}
 use Rattle.tab_ids.specs.declared.ReqId.{ReqId}
 use Rattle.tab_ids.specs.declared.StateId.{StateId}
 use Rattle.tab_passes.proofs.Leavings.{passing_again}
-use Rattle.tab_stands.proofs.PassedOn.{IsUnapplied, late_put, queue_over, turning_on}
+use Rattle.tab_stands.proofs.PassedOn.{IsUnapplied, late_put, queue_over, waiting_on}
 use Rattle.tab_stands.proofs.Ready.{calm_before}
 use Rattle.tab_stands.specs.PassedOn.{HasQueue, InPass, IsPassing, IsQueueing, IsReady, IsTaking, LateKnown, LeavesQueue, MovedAreShown}
 use Rattle.tab_stands.specs.Standing.{HasRoomFor, InCheck, LastsInLog, StandsFor, StartsUnasked, seen_start}
 use Rattle.user_evicts.proofs.Lefts.{LeavesGone, gone_over, loose_over, untraversed}
-use Rattle.user_evicts.proofs.Owns.{few_own, late_own, moved_own, none_held, off_own, parked_own, queued_own, taking_own, theirs_own, turning_own}
+use Rattle.user_evicts.proofs.Owns.{few_own, late_own, moved_own, none_held, off_own, parked_own, queued_own, taking_own, theirs_own, waiting_own}
 use Rattle.user_evicts.proofs.Takings.{aim_still, gone_moved, gone_taking, gone_theirs, history_same, wishes_same}
 use Rattle.user_evicts.specs.Evicting.{IsEvictAsk}
 use Rattle.log_model.specs.declared.job.Why.TheVariants as whys
@@ -109,7 +110,7 @@ module _ (e : InEvent) (state : StateId) (asks : IsEvictAsk e state) (t : Tables
   queueing : IsQueueing p out u queue
   queueing =
       record {
-        turning = turning_on e [] out (inl left.parked) (λ req. wishes_same e t.running blame s n was plain stays left letting.were req) (λ req has. ap (λ (l : List ReqId). has_req l req) (sym left.joined) ∙ has) (turning_own e state asks t queue blame stands aside logged logs);
+        waits = waiting_on e [] out (inl left.parked) (λ req. wishes_same e t.running blame s n was plain stays left letting.were req) (λ req has. ap (λ (l : List ReqId). has_req l req) (sym left.joined) ∙ has) (waiting_own e state asks t queue blame stands aside logged logs);
         queued = subst (λ (r : Option ReqId). HasQueue n r queue.waiting) (sym keeps.running) (queue_over s n leaves t.running queue.waiting (queued_own e state asks t queue blame stands aside logged logs));
         parked = parked_own e state asks t queue blame stands aside logged logs ∙ ap (λ (l : List Asked). held_back l s.parked) (sym left.requests) ∙ ap (λ (l : List ReqId). held_back n.requests l) (sym left.parked);
         held = λ idle. left.parked ∙ none_held e state asks t queue blame stands aside logged logs (sym keeps.running ∙ idle);
@@ -127,6 +128,7 @@ module _ (e : InEvent) (state : StateId) (asks : IsEvictAsk e state) (t : Tables
         header = keeps.keep ∙ header;
         open_ = taking_u.open_ whys.Evict (λ req never. absurd cc);
         loads = taking_u.loads;
+        frees = λ nav place placed need since. none_steps e.checking aside.unchecked (log_of e []);
         blamed = taking_u.blamed;
         calm = calm_before u.running whys.Evict n taking_u.calm taking_u.unmoved taking_u.rooted;
         live = taking_u.live;

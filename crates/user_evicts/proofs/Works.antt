@@ -36,7 +36,7 @@ use Rattle.tab_doors.proofs.Initial.{initial_same}
 use Rattle.tab_doors.proofs.Keeping.{gone_tied}
 use Rattle.tab_doors.proofs.ShowWorks.{served_same}
 use Rattle.tab_doors.proofs.Telling.{SendsOne}
-use Rattle.tab_doors.proofs.Works.{few_sent, goal_on, goal_read, kept_gone, none_steps, runs_on, soles_more}
+use Rattle.tab_doors.proofs.Works.{few_sent, goal_on, goal_read, kept_gone, none_steps, runs_on, soles_more, steps_calm}
 use Rattle.tab_doors.specs.Look.{look_of, sight}
 use Rattle.tab_doors.proofs.Whose.{proc_known, proc_same}
 use Rattle.tab_doors.specs.Orders.{numbered_order, order_to, proc_at}
@@ -83,7 +83,8 @@ module _ (e : InEvent) (t u : Tables) (doc : DocId) (state : StateId) (tied : Ar
         sole = soles_more e [] (rows.Sent order) tt (sole_own e (log_of e []) its.aside.uncut);
         debts = debts_own e its.aside.uncut;
         checks = checks_;
-        unheld = none_steps e.checking its.aside.unchecked (log_of e (rows.Sent order ∷ []));
+        calm = steps_calm e.checking (log_of e (rows.Sent order ∷ [])) (none_steps e.checking its.aside.unchecked (log_of e (rows.Sent order ∷ [])));
+        unheld = λ free. none_steps e.checking its.aside.unchecked (log_of e (rows.Sent order ∷ []));
         holds = subst (λ (x : Seen). Holds (look_of x u.running) u) now_then (subst (λ (r : Option ReqId). Holds (look_of then_ r) u) (sym running) (discard_holds n t.running e.event e.actor (proc_at n doc) doc whys.Evict state [] t tied.holds tied.runs its.gone.are its.gone.its_state its.gone.its u tree one));
         runs = subst (λ (x : Seen). IsRunning x.requests u.running) now_then (runs_on n.requests then_.requests t u (served_same is_run n order tasks.Discard whys.Evict (λ q. refl)) running tied.runs);
         goal = subst (λ (x : Seen). HasGoal x.requests u.running u.goal) now_then (goal_on n.requests then_.requests t u (served_same goal_read n order tasks.Discard whys.Evict (λ q. refl)) running goal tied.goal);

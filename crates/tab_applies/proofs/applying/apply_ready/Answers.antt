@@ -11,7 +11,7 @@ given_there-over-requires g c = given_some g.r.pass _ _ c.requires.0 _ g.r.load 
 pub apply_load-requires : goal.apply_load-requires
 apply_load-requires g c =
     let over = given_there g.r.pass _ _ c.requires.0 _ g.r.load c.requires.1.0 c.requires.1.1.0 c.requires.1.1.1 _ c.given_there-over.ensures in
-    (c.requires.0.work, (c.requires.1.0, (refl, (apply_due g.r.pass _ _ c.requires.0 _ g.r.load c.requires.1.0 c.requires.1.1.0 c.requires.1.1.1 _ over, (may_change g.r.pass _ _ c.requires.0 _ g.r.load c.requires.1.0 c.requires.1.1.0 c.requires.1.1.1 _ over, (sees_rows g.r.pass _ _ c.requires.0 _ g.r.load c.requires.1.0 c.requires.1.1.0 c.requires.1.1.1 _ over, (no_maker g.r.pass _ _ c.requires.0 _ g.r.load c.requires.1.0 c.requires.1.1.0 c.requires.1.1.1 _ over, (ap (λ (r : Option ReqId). is_this r g.r.load.req) c.requires.1.1.0, few_entries g.r.pass _ _ c.requires.0 _ g.r.load c.requires.1.0 c.requires.1.1.0 c.requires.1.1.1 _ over))))))))
+    (c.requires.0.work, (c.requires.1.0, (refl, (apply_due g.r.pass _ _ c.requires.0 _ g.r.load c.requires.1.0 c.requires.1.1.0 c.requires.1.1.1 _ over, (may_change g.r.pass _ _ c.requires.0 _ g.r.load c.requires.1.0 c.requires.1.1.0 c.requires.1.1.1 _ over, (sees_rows g.r.pass _ _ c.requires.0 _ g.r.load c.requires.1.0 c.requires.1.1.0 c.requires.1.1.1 _ over, (no_maker g.r.pass _ _ c.requires.0 _ g.r.load c.requires.1.0 c.requires.1.1.0 c.requires.1.1.1 _ over, (ap (λ (r : Option ReqId). is_this r g.r.load.req) c.requires.1.1.0, (few_entries g.r.pass _ _ c.requires.0 _ g.r.load c.requires.1.0 c.requires.1.1.0 c.requires.1.1.1 _ over, c.requires.1.1.1.free)))))))))
 
 pub returns-clause-passing : goal.returns-clause-passing
 returns-clause-passing g c =

@@ -17,7 +17,7 @@ discard-requires g c =
             quiet_gone g.l.pass (move_in g.l) c.args.out.now c.args.tables.now c.requires.leaving c.args.why c.requires.may c.args.doc c.in-Some.state its,
             (
               quiet_own g.l.pass (move_in g.l) c.args.out.now c.args.tables.now c.requires.leaving c.args.why c.requires.may c.args.doc c.in-Some.state its,
-              below_lets g.l c.args.gone c.args.why c.args.out.now c.args.tables.now c.requires c.args.doc c.in-Some.state (sym c.state_below.ensures ∙ c.in-Some.is),
+              (below_lets g.l c.args.gone c.args.why c.args.out.now c.args.tables.now c.requires c.args.doc c.in-Some.state (sym c.state_below.ensures ∙ c.in-Some.is), c.requires.free),
             ),
           ),
         ),

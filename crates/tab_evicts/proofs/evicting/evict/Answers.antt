@@ -22,7 +22,7 @@ discard-requires g c =
             quiet_gone g.m.pass (Some g.m.move) c.args.out.now c.args.tables.now c.requires.0 c.args.why c.requires.1.0.may c.doc_there-doc.result c.args.gone its,
             (
               quiet_own g.m.pass (Some g.m.move) c.args.out.now c.args.tables.now c.requires.0 c.args.why c.requires.1.0.may c.doc_there-doc.result c.args.gone its,
-              first_lets g.m c.args.gone c.args.why c.args.out.now c.args.tables.now c.requires.0 c.requires.1.0 c.requires.1.1,
+              (first_lets g.m c.args.gone c.args.why c.args.out.now c.args.tables.now c.requires.0 c.requires.1.0 c.requires.1.1, c.requires.1.0.free),
             ),
           ),
         ),

@@ -1,4 +1,4 @@
-use Rattle.tab_one_pass.proofs.Gives.{idle_only, idle_stand, move_asks, moved_left, moved_noted, moved_only, moved_open}
+use Rattle.tab_one_pass.proofs.Gives.{idle_only, idle_stand, move_asks, moved_frees, moved_left, moved_noted, moved_only, moved_open}
 use Rattle.tab_one_pass.proofs.Passes.{left_none}
 use Rattle.tab_one_pass.proofs.passing.give_way.Goals as goal
 
@@ -32,3 +32,10 @@ returns-in-None-clause-left g c = left_none _
 pub returns-in-None-clause-only : goal.returns-in-None-clause-only
 returns-in-None-clause-only g c =
     idle_only g.p c.args.out.now c.args.tables.now c.requires.0 c.args.cause c.requires.1.0 c.requires.1.1.0 c.in-None.is
+
+pub returns-in_ok-drop_moved-in-Some-clause-frees : goal.returns-in_ok-drop_moved-in-Some-clause-frees
+returns-in_ok-drop_moved-in-Some-clause-frees g c =
+    moved_frees g.p c.args.out.now c.args.tables.now c.requires.0 c.args.cause c.requires.1.0 c.requires.1.1.0 c.in-Some.by c.in-Some.is _ _ c.in_ok-drop_moved-in-Some.ensures.passing c.in_ok-drop_moved-in-Some.ensures.left c.in_ok-drop_moved-in-Some.ensures.kept
+
+pub returns-in-None-clause-frees : goal.returns-in-None-clause-frees
+returns-in-None-clause-frees g c = λ frees. frees

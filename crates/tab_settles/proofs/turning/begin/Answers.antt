@@ -35,7 +35,7 @@ returns-after-is_none-clause-put g c = turn_put g.p.event _ _ c.in_ok-begin_next
 
 pub begin_next-requires : goal.begin_next-requires
 begin_next-requires g c =
-    let asks = begin_asks g.p _ _ _ _ _ c.requires.0 c.requires.1.0 in (asks.0, (asks.1.0, (asks.1.1.0, (asks.1.1.1.0, (asks.1.1.1.1, has_slots (log_of g.p.event c.args.out.now) _ c.requires.1.1.known)))))
+    let asks = begin_asks g.p _ _ _ _ _ c.requires.0 c.requires.1.0 c.requires.1.1.1 in (asks.0, (asks.1.0, (asks.1.1.0, (asks.1.1.1.0, (asks.1.1.1.1, has_slots (log_of g.p.event c.args.out.now) _ c.requires.1.1.0.known)))))
 
 pub returns-in-Asks-clause-rested : goal.returns-in-Asks-clause-rested
 returns-in-Asks-clause-rested g c did =

@@ -4,6 +4,9 @@ use Rattle.tab_settles.proofs.EndedOff.{ended_turned}
 use Rattle.tab_settles.proofs.turning.finish.Goals as goal
 use Rattle.tab_settles.specs.declared.reasons.Reasons.{Reasons}
 
+pub end_running-requires : goal.end_running-requires
+end_running-requires g c = (c.requires.0.passing, record { waits = c.requires.0.queueing.waits; free = c.requires.1.1 })
+
 pub release-requires : goal.release-requires
 release-requires g c =
     release_asks g.p _ _ _ _ _ c.requires.0 _ _ c.in_ok-end_running.ensures.passing c.in_ok-end_running.ensures.turning (has_ended _ _ _ _ _ _ c.if-branch.true c.in_ok-end_running.ensures.ended) (sym c.in_ok-end_running.ensures.due ∙ c.if-branch.true)
@@ -18,7 +21,7 @@ returns-then-branch-clause-put g c =
 
 pub returns-clause-due : goal.returns-clause-due
 returns-clause-due g c not_ended =
-    still_due g.p _ _ _ _ _ c.requires.0 _ _ (has_rested _ _ _ _ _ _ c.if-branch.false c.in_ok-end_running.ensures.ended) c.requires.1 (sym c.if-branch.false ∙ c.in_ok-end_running.ensures.due)
+    still_due g.p _ _ _ _ _ c.requires.0 _ _ (has_rested _ _ _ _ _ _ c.if-branch.false c.in_ok-end_running.ensures.ended) c.requires.1.0 (sym c.if-branch.false ∙ c.in_ok-end_running.ensures.due)
 
 pub returns-then-branch-clause-turned : goal.returns-then-branch-clause-turned
 returns-then-branch-clause-turned g c did =

@@ -10,12 +10,12 @@ discard-requires g c =
     let leaving = leaving_none g.p c.args.out.now c.args.tables.now c.requires.0 in (
       leaving,
       (
-        unneeded_leaves g.p c.args.out.now c.args.tables.now c.requires.0 c.args.doc c.args.state c.requires.1.0 c.args.why c.requires.1.1,
+        unneeded_leaves g.p c.args.out.now c.args.tables.now c.requires.0 c.args.doc c.args.state c.requires.1.0 c.args.why c.requires.1.1.0,
         (
-          unneeded_sends g.p c.args.out.now c.args.tables.now c.requires.0 c.args.doc c.args.state c.requires.1.0 c.args.why c.requires.1.1,
+          unneeded_sends g.p c.args.out.now c.args.tables.now c.requires.0 c.args.doc c.args.state c.requires.1.0 c.args.why c.requires.1.1.0,
           (
             stray_gone g.p c.args.out.now c.args.tables.now leaving c.args.doc c.args.state c.requires.1.0.stray,
-            (stray_own g.p c.args.out.now c.args.tables.now leaving c.args.doc c.args.state c.requires.1.0.stray, refl),
+            (stray_own g.p c.args.out.now c.args.tables.now leaving c.args.doc c.args.state c.requires.1.0.stray, (refl, c.requires.1.1.1)),
           ),
         ),
       ),
@@ -23,7 +23,7 @@ discard-requires g c =
 
 pub returns-clause-passing : goal.returns-clause-passing
 returns-clause-passing g c =
-    unneeded_passing g.p c.args.out.now c.args.tables.now c.requires.0 c.args.doc c.args.state c.requires.1.0 c.args.why c.requires.1.1 _ _ c.in_ok-discard.ensures.out c.in_ok-discard.ensures.kept c.in_ok-discard.ensures.leaving
+    unneeded_passing g.p c.args.out.now c.args.tables.now c.requires.0 c.args.doc c.args.state c.requires.1.0 c.args.why c.requires.1.1.0 _ _ c.in_ok-discard.ensures.out c.in_ok-discard.ensures.kept c.in_ok-discard.ensures.leaving
 
 pub returns-clause-left : goal.returns-clause-left
 returns-clause-left g c =

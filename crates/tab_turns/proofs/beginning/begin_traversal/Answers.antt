@@ -12,13 +12,13 @@ pub refuse-requires : goal.refuse-requires
 refuse-requires g c =
     let fits : SFits w32 c.args.delta = search rules in
     let nowhere = to_none _ _ _ c.requires.0.work c.args.delta _ (to_z-of_z w32 c.args.delta fits) _ c.goal_of.ensures c.in-None.is in
-    (c.requires.0.work, (refuse_due g.p _ _ c.requires.0 c.requires.1.0 c.requires.1.1.0 _ _ c.requires.1.1.1.0 c.requires.1.1.1.1.0 nowhere, ap (λ (o : Option ReqId). is_this o c.args.req) c.requires.1.1.0))
+    (c.requires.0.work, (refuse_due g.p _ _ c.requires.0 c.requires.1.0 c.requires.1.1.0 _ _ c.requires.1.1.1.0 c.requires.1.1.1.1.0 nowhere, (ap (λ (o : Option ReqId). is_this o c.args.req) c.requires.1.1.0, c.requires.1.0.free)))
 
 pub begin-requires : goal.begin-requires
 begin-requires g c =
     let fits : SFits w32 c.args.delta = search rules in
     let there = to_goal _ _ _ c.requires.0.work c.args.delta _ (to_z-of_z w32 c.args.delta fits) _ c.goal_of.ensures _ c.in-Some.is in
-    (c.requires.0.work, (c.requires.1.1.0, (begin_due g.p _ _ c.requires.0 c.requires.1.0 c.requires.1.1.0 _ _ c.requires.1.1.1.0 c.requires.1.1.1.1.0 _ there, c.requires.1.1.1.1.1.1.1 _ there)))
+    (c.requires.0.work, (c.requires.1.1.0, (begin_due g.p _ _ c.requires.0 c.requires.1.0 c.requires.1.1.0 _ _ c.requires.1.1.1.0 c.requires.1.1.1.1.0 _ there, (c.requires.1.1.1.1.1.1.1 _ there, c.requires.1.0.free))))
 
 pub returns-in_ok-refuse-in-None-clause-passing : goal.returns-in_ok-refuse-in-None-clause-passing
 returns-in_ok-refuse-in-None-clause-passing g c =

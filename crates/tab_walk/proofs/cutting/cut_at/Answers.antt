@@ -20,7 +20,7 @@ discard-requires g c =
             quiet_gone g.n.cut.pass (Some g.n.cut.move) c.args.out.now c.args.tables.now c.requires.1.leaving c.args.why c.requires.1.may c.at-doc.result.now c.state_there-state.result its,
             (
               quiet_own g.n.cut.pass (Some g.n.cut.move) c.args.out.now c.args.tables.now c.requires.1.leaving c.args.why c.requires.1.may c.at-doc.result.now c.state_there-state.result its,
-              cut_lets g.n.cut g.n.gone c.args.why g.n.rest (drop (c.args.i + 1) c.args.docs.now) c.at-doc.result.now c.args.out.now c.args.tables.now so c.state_there-state.result c.state_there-state.ensures,
+              (cut_lets g.n.cut g.n.gone c.args.why g.n.rest (drop (c.args.i + 1) c.args.docs.now) c.at-doc.result.now c.args.out.now c.args.tables.now so c.state_there-state.result c.state_there-state.ensures, so.free),
             ),
           ),
         ),

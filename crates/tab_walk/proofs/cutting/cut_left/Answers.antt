@@ -6,7 +6,7 @@ use Rattle.tab_walk.proofs.cutting.cut_left.Goals as goal
 pub discard-requires : goal.discard-requires
 discard-requires g c =
     let its = first_cut g.k.m c.args.out.now c.args.tables.now c.requires.0 c.args.why c.args.nav c.args.left c.args.old c.requires.1.0 c.requires.1.1.1.1.0 c.requires.1.1.1.1.1 in
-    (c.requires.0, (its.leaves, (its.sends, (its.gone, (its.own, its.lets)))))
+    (c.requires.0, (its.leaves, (its.sends, (its.gone, (its.own, (its.lets, c.requires.1.0.free))))))
 
 pub cut_each-requires : goal.cut_each-requires
 cut_each-requires g c =

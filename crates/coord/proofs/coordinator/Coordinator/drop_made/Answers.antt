@@ -1,9 +1,11 @@
-use Rattle.coord.proofs.Asides.{seen_room}
+use Rattle.coord.proofs.Asides.{off, seen_room}
+use Rattle.tab_doors.proofs.Works.{none_steps}
+use Rattle.seen_laws.specs.InEvent.{log_of}
 use Rattle.coord.proofs.Dones.{done_logged, done_stands, keep_now}
 use Rattle.coord.proofs.Unneeded.{dropped_settles, made_unneeded}
 use Rattle.coord.proofs.coordinator.Coordinator.drop_made.Goals as goal
 use Rattle.coord.specs.Delivering.{done_in}
-use Rattle.std.proofs.Common.{refl, subst, sym}
+use Rattle.std.proofs.Common.{[], refl, subst, sym}
 use Rattle.tab_stands.specs.PassedOn.{IsReady}
 use Rattle.tab_stands.specs.Standing.{StandsFor, seen_start}
 use Rattle.tab_unneeded.specs.Made.{InMade, IsMadeUnneeded, pass_in}
@@ -11,7 +13,7 @@ use Rattle.log_model.specs.declared.job.Why.TheVariants as whys
 
 pub discard_made-requires : goal.discard_made-requires
 discard_made-requires g c =
-    (keep_now g.m.event c.args.self.now c.requires.1.0.open_, (c.requires.1.1.1.1.1, (seen_room g.m.event c.args.self.now c.requires.1.0.open_, (subst (λ (x : InMade). StandsFor x.check (seen_start x.event) c.args.self.now.tables x.queue x.noted) (sym c.requires.0) (done_stands (done_in g.m) c.args.self.now c.args.job.now c.requires.1.0), (subst (λ (x : InMade). IsMadeUnneeded x c.args.job.now.doc c.args.state c.args.job.now.why) (sym c.requires.0) (made_unneeded (done_in g.m) c.args.self.now c.args.job.now c.requires.1.0 c.args.state c.requires.1.1.0 c.requires.1.1.1.0 c.requires.1.1.1.1.0), done_logged (done_in g.m) c.args.self.now c.args.job.now c.requires.1.0)))))
+    (keep_now g.m.event c.args.self.now c.requires.1.0.open_, (c.requires.1.1.1.1.1, (seen_room g.m.event c.args.self.now c.requires.1.0.open_, (subst (λ (x : InMade). StandsFor x.check (seen_start x.event) c.args.self.now.tables x.queue x.noted) (sym c.requires.0) (done_stands (done_in g.m) c.args.self.now c.args.job.now c.requires.1.0), (subst (λ (x : InMade). IsMadeUnneeded x c.args.job.now.doc c.args.state c.args.job.now.why) (sym c.requires.0) (made_unneeded (done_in g.m) c.args.self.now c.args.job.now c.requires.1.0 c.args.state c.requires.1.1.0 c.requires.1.1.1.0 c.requires.1.1.1.1.0), (done_logged (done_in g.m) c.args.self.now c.args.job.now c.requires.1.0, none_steps g.m.event.checking (off g.m.event c.args.self.now c.requires.1.0.open_) (log_of g.m.event [])))))))
 
 pub settle-requires : goal.settle-requires
 settle-requires g c =
