@@ -13,6 +13,7 @@ use Rattle.log_model.specs.Seen.{Asked, Seen, request_of}
 use Rattle.seen_laws.proofs.InEvents.{log_more}
 use Rattle.seen_laws.specs.Blocks.{EachPass, Here, on_row, on_rows, point_at}
 use Rattle.seen_laws.specs.InEvent.{InEvent, cut, log_of, row_of}
+use Rattle.asking_facts.proofs.Askable.{row_askable, sent_askable}
 use Rattle.asking_facts.proofs.Beginning.{questions_early}
 use Rattle.asking_facts.proofs.Begun.{block_log, begun_own, once_begun}
 use Rattle.asking_facts.proofs.Early.{early_row}
@@ -59,6 +60,7 @@ known_begun e out req goal questions jobs q begins are apart known =
       waits = begun_wait e now req goal questions jobs q begins are apart known.waits;
       unanswered = unanswered_sent e first jobs (unanswered_row now (row_of e (rows.Started req goal)) tt known.unanswered);
       wanted = wanted_sent e first jobs (wanted_row now (row_of e (rows.Started req goal)) tt known.wanted);
+      askable = sent_askable e first jobs (row_askable now (row_of e (rows.Started req goal)) known.askable);
     })
   where
     now : Seen

@@ -31,6 +31,7 @@ pub mod Standing
 pub mod Unanswered
 pub mod Wanted
 pub mod ApartDue
+pub mod Askable
 pub mod Notes
 pub mod NotesOver
 pub mod Passed

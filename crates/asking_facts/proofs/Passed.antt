@@ -26,6 +26,7 @@ use Rattle.log_model.specs.Outcomes.{is_outcome_of}
 use Rattle.log_model.specs.Points.{had_started}
 use Rattle.log_model.specs.Seen.{Asked, Seen, desk_of, nothing, request_of}
 use Rattle.seen_laws.specs.Blocks.{Passes}
+use Rattle.asking_facts.proofs.Askable.{nothing_askable, row_askable}
 use Rattle.asking_facts.proofs.Early.{early_row}
 use Rattle.asking_facts.proofs.Unanswered.{unanswered_row}
 use Rattle.asking_facts.proofs.WaitingEach.{waiting_row}
@@ -44,6 +45,7 @@ known_on s row begun goes answers wanted known =
       waits = waiting_row s row goes known.waits;
       unanswered = unanswered_row s row answers known.unanswered;
       wanted = wanted_row s row wanted known.wanted;
+      askable = row_askable s row known.askable;
     }
 
 -- ---- one that passes
@@ -217,6 +219,7 @@ known_nothing =
       };
       unanswered = λ req q at. absurd (none req q at);
       wanted = λ req q at. absurd (none req q at);
+      askable = nothing_askable;
     }
   where
     none : (req : ReqId) (q : Asked) → request_of nothing req ≡ Some q → ⊥

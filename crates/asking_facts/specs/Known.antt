@@ -7,13 +7,20 @@ use Rattle.log_model.specs.Seen.{Asked, Seen, request_of}
 use Rattle.asking_facts.specs.Asking.{NoneAskedEarly}
 use Rattle.asking_facts.specs.Prompting.{AllWanted, NoneAnsweredEarly, has_wanted}
 use Rattle.asking_facts.specs.Waiting.{QuestionsWait, SendsFirst}
+use Rattle.unasked.specs.Premises.{AreFresh, all_sited}
 
--- a request that hasn't begun asked nobody, questions wait, nobody answers who wasn't asked, and whoever was asked was so for a document that wanted it
+-- of a request that hasn't begun nothing is kept of a beginning, and each document's process has a desk; so questions aren't seen in the log without questions
+pub record IsAskable (s : Seen) : Type 0 where
+  pub fresh : AreFresh s.requests
+  pub sited : all_sited s ≡ true
+
+-- a request that hasn't begun asked nobody, questions wait, nobody answers who wasn't asked, and whoever was asked was so for a document that wanted it; and questions may come
 pub record AskingKnown (s : Seen) : Type 0 where
   pub early : NoneAskedEarly s
   pub waits : QuestionsWait s
   pub unanswered : NoneAnsweredEarly s
   pub wanted : AllWanted s
+  pub askable : IsAskable s
 
 -- a question is the first to its document for its request, and the user is asked for the sake of a document that wants it
 abbrev pub KeepsKnown : Seen → RowKind → Type 0

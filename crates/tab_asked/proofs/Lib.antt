@@ -1,0 +1,13 @@
+pub mod Asked
+pub mod Checks
+pub mod Left
+pub mod Notes
+pub mod Silent
+pub mod States
+pub mod Taken
+pub mod There
+pub mod Traversals
+pub mod Turn
+pub mod Unbegun
+pub mod Whom
+pub mod Works
