@@ -1,0 +1,14 @@
+pub mod Lists
+pub mod Since
+pub mod Tables
+pub mod Told
+pub mod Dues
+pub mod Prompted
+pub mod Works
+pub mod Agreeing
+pub mod Lowest
+pub mod Settled
+pub mod Ready
+pub mod Resumed
+pub mod Begins
+pub mod Again
