@@ -183,7 +183,8 @@ module _ (e : InEvent) (c : Coordinator) (open_ : IsOpenIn e c) where
   desk_plain proc = sym (desk_map s.desks proc) ∙ ap (λ (x : Seen). desk_of x proc) start_plain
 
   module _ (proc : ProcId) (report : Report) (delivery : IsDelivery e proc report) where
-    no_answer_told : no_answer report ≡ Some report
+    -- the report is no answer
+    pub no_answer_told : no_answer report ≡ Some report
     no_answer_told =
         each_same no_answer (desk_of s proc).reports report (ap (λ (desk : Desk). desk.reports) (desk_plain proc)) delivery.first
 

@@ -1,9 +1,10 @@
 -- The document that is kept longest was discarded as the user evicts it, with those below it: the tab may be brought to rest.
 use Rattle.tab_stands.proofs.PassedOn.{rows_slots}
 use Rattle.load_doors.specs.Logged.{IsLogged}
-use Rattle.tab_stands.proofs.Logged.{evicted_lasts, own_read, unasked_logged}
+use Rattle.tab_acts.proofs.Owns as owns
+use Rattle.tab_stands.proofs.Logged.{own_read}
 use Rattle.tab_stands.specs.Standing.{LastsInLog, StartsUnasked, seen_start}
-use Rattle.coord.proofs.Asides.{evicted_aside, seen_stands, start_lasts}
+use Rattle.coord.proofs.Asides.{evicted_aside, seen_stands, start_asks, start_lasts}
 use Rattle.tab_doors.proofs.Uncut.{uncut_now}
 use Rattle.coord.proofs.Fines.{IsFine, fine_discard, fine_moves, makes_over, sound_over}
 use Rattle.coord.proofs.Slots.{own_slots}
@@ -67,10 +68,10 @@ module _ (e : InEvent) (state : StateId) (c : Coordinator) (open_ : IsOpenTo e c
 
   -- what is known of the log then
   pub lasts_log : LastsInLog e.checking (log_of e [])
-  lasts_log = evicted_lasts e aside.uncut leads_own alive (start_lasts e c open_.in_) state asks.own
+  lasts_log = owns.evicted_log e c.tables.checks open_.in_.uncut open_.in_.undue (start_lasts e c open_.in_) (start_asks e c open_.in_) state asks.own
 
   pub logged : IsLogged e c.tables.checks
-  logged = unasked_logged e aside c.tables.checks open_.in_.stands.unchecked (start_lasts e c open_.in_).checks.numbered lasts_log.checks
+  logged = owns.evicted_logged e c.tables.checks open_.in_.uncut open_.in_.undue (start_lasts e c open_.in_) (start_asks e c open_.in_) state asks.own
 
   comes : IsComing c.blame.entries (seen_start e) (now_of e [])
   comes = comes_own e state asks c.tables c.queue c.blame.entries stands aside logged lasts_log

@@ -1,10 +1,11 @@
 -- Fragment orders find their documents running, and reports of them tell of what was made: as an event's own row is logged, and over rows that a coordinator puts out.
 use Rattle.load_doors.specs.Logged.{IsLogged}
-use Rattle.tab_stands.proofs.Logged.{accepted_lasts, delivered_lasts, delivered_legal, own_read, unasked_logged, with_lawful}
+use Rattle.tab_acts.proofs.Owns as owns
+use Rattle.tab_stands.proofs.Logged.{own_read}
 use Rattle.tab_doors.proofs.Uncut.{uncut_now}
 use Rattle.seen_laws.proofs.InEvents.{since_goes}
 use Rattle.tab_stands.specs.Standing.{HasLogged, LastsInLog, StartsUnasked}
-use Rattle.coord.proofs.Asides.{accepted_aside, delivered_aside, off, seen_delivery, seen_stands, start_lasts, start_plain}
+use Rattle.coord.proofs.Asides.{accepted_aside, delivered_aside, no_answer_told, off, seen_delivery, seen_stands, start_asks, start_lasts, start_plain}
 use Rattle.coord.proofs.News.{is_quiet}
 use Rattle.coord.specs.Standing.{IsOpenIn}
 use Rattle.coord.specs.declared.coordinator.Coordinator.{Coordinator}
@@ -72,11 +73,11 @@ module _ (e : InEvent) (c : Coordinator) (open_ : IsOpenIn e c) (req : ReqId) (d
   -- what lasts of the log
   pub accepted_log : req.0 ≡ length e.start.requests + 1 → LastsInLog e.checking (log_of e [])
   accepted_log next =
-      accepted_lasts e open_.uncut led_here (λ proc is. (let never : rows.Accepted req doc what ≡ rows.Delivered proc = sym own ∙ is in absurd cc)) (start_lasts e c open_) req doc what own next (off e c open_ req)
+      owns.accepted_log e c.tables.checks open_.uncut open_.undue (start_lasts e c open_) (start_asks e c open_) req doc what own next (off e c open_ req)
 
   pub accepted_logged : req.0 ≡ length e.start.requests + 1 → IsLogged e c.tables.checks
   accepted_logged next =
-      unasked_logged e (accepted_aside e c open_ req doc what own) c.tables.checks open_.stands.unchecked (start_lasts e c open_).checks.numbered (accepted_log next).checks
+      owns.accepted_logged e c.tables.checks open_.uncut open_.undue (start_lasts e c open_) (start_asks e c open_) req doc what own next (off e c open_ req)
 
   pub accepted_found : AreFoundRunning (now_of e [])
   accepted_found =
@@ -103,14 +104,7 @@ module _ (e : InEvent) (proc : ProcId) (report : Report) (delivery : IsDelivery 
   -- what is known of the log then
   pub delivered_logged : HasLogged e c.tables.checks
   delivered_logged =
-      with_lawful e aside c.tables.checks (unasked_logged e aside c.tables.checks open_.stands.unchecked (start_lasts e c open_).checks.numbered lasts.checks) lasts
-      (delivered_legal e proc report open_.uncut delivery.by_coord delivery.own delivery.first open_.stands.stands.between.tab.asked.passed)
-    where
-      aside : StartsUnasked e
-      aside = delivered_aside e c open_ proc report delivery
-
-      lasts : LastsInLog e.checking (log_of e [])
-      lasts = delivered_lasts e open_.uncut led_so alive (start_lasts e c open_) proc delivery.own
+      owns.delivered_logged e c.tables.checks open_.uncut open_.undue (start_lasts e c open_) (start_asks e c open_) proc report report delivery (no_answer_told e c open_ proc report delivery) (seen_stands e c open_).between.tab.desks
 
   pub delivered_found : AreFoundRunning (now_of e [])
   delivered_found = own_found e led_so (delivered_aside e c open_ proc report delivery) alive open_.stands.found

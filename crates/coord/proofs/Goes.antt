@@ -37,7 +37,7 @@ module _ (e : InEvent) (c : Coordinator) (open_ : IsOpenTo e c) (req : ReqId) (d
   -- what is known of the log once it was accepted
   logged : HasLogged e c.tables.checks
   logged =
-      with_lawful e aside c.tables.checks (accepted_logged e c open_.in_ req None (requests.Go delta) asked.own asked.next) (accepted_log e c open_.in_ req None (requests.Go delta) asked.own asked.next) legal
+      with_lawful e c.tables.checks (accepted_logged e c open_.in_ req None (requests.Go delta) asked.own asked.next) (accepted_log e c open_.in_ req None (requests.Go delta) asked.own asked.next) legal
 
   pub go_settles : (left : Queue) → left ≡ record c.queue { waiting = c.queue.waiting ++ Traverse req delta ∷ [] } → IsToSettle e [] (record c { queue = left }) whys.Start
   go_settles left pushed =

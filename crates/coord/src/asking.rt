@@ -20,7 +20,7 @@ fn cause_of(req: ReqId, loaded: Loaded) -> Why
 {
     match loaded {
         Loaded::Begun => Why::Req(req),
-        Loaded::Refused | Loaded::CutOff | Loaded::ToFragment => Why::Start,
+        Loaded::Refused | Loaded::CutOff | Loaded::ToFragment | Loaded::Asks => Why::Start,
     }
 }
 
@@ -69,6 +69,7 @@ impl Coordinator {
             &mut self.tables,
             &self.queue,
             &mut self.blame,
+            &self.slots,
             out,
             req,
             nav,

@@ -8,3 +8,4 @@ pub mod Acts
 pub mod Fragments
 pub mod Told
 pub mod Edits
+pub mod Owns

@@ -88,7 +88,7 @@ told_plain (reports.Done j o m) job outcome made is answers = by_test (is_questi
         let same : outcome ≡ without_slot o = cc in
         unslotted o (subst (λ (k : Outcome). IsNoAnswerOf k) same answers)
 
-alive_plain : (report : Option Report) → IsPlainReport report → NoDeath report
+pub alive_plain : (report : Option Report) → IsPlainReport report → NoDeath report
 alive_plain None plain = tt
 alive_plain (Some (reports.Made made)) plain = tt
 alive_plain (Some (reports.Died death)) never = absurd never

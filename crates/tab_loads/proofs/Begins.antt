@@ -30,9 +30,9 @@ use Rattle.tab_loads.proofs.Makes.{causes, unknown, unmade_load, unmaking}
 use Rattle.tab_passes.proofs.Others.{cause_off}
 use Rattle.tab_loads.proofs.Orders.{due_make, known}
 use Rattle.tab_loads.proofs.Starts.{given, states_room, to_begin}
-use Rattle.tab_loads.specs.Asking.{HasCome, InLoad, IsAsked}
+use Rattle.tab_loads.specs.Asking.{BeginsAnew, HasCome, InLoad, IsAsked}
 use Rattle.tab_loads.specs.Giving.{HasMadeWay}
-use Rattle.tab_loads.specs.Telling.{away_in, fragment_in}
+use Rattle.tab_loads.specs.Telling.{away_in}
 use Rattle.tab_loads.specs.declared.loaded.Loaded.TheVariants.{Begun}
 use Rattle.tab_moves.specs.Making.{home_in}
 use Rattle.log_model.specs.declared.job.Task.TheVariants as tasks
@@ -61,19 +61,19 @@ module _ (l : InLoad) (t : Tables) (asked : IsAsked l t) (req : ReqId) (req_is :
   pub asked_its : IsAsked (named l req nav mode address was) t
   asked_its = subst (λ (x : InLoad). IsAsked x t) same asked
 
-  module _ (placed_ : away_in t l.nav ≡ None) (anew_ : fragment_in t l.nav l.address ≡ None) (noted : List (StateId × ReqId)) (v : Tables) (out : List RowKind) (way : HasMadeWay l.event req nav t v out was noted) where
+  module _ (placed_ : away_in t l.nav ≡ None) (anew_ : BeginsAnew l t) (noted : List (StateId × ReqId)) (v : Tables) (out : List RowKind) (way : HasMadeWay l.event req nav t v out was noted) where
     pub placed_its : away_in t nav ≡ None
     placed_its = subst (λ (x : InLoad). away_in t x.nav ≡ None) same placed_
 
-    pub anew_its : fragment_in t nav address ≡ None
-    anew_its = subst (λ (x : InLoad). fragment_in t x.nav x.address ≡ None) same anew_
+    pub anew_its : BeginsAnew (named l req nav mode address was) t
+    anew_its = subst (λ (x : InLoad). BeginsAnew x t) same anew_
 
     pub given_now : IsAtWork l.event out v × IsGiven (now_of l.event out) v nav
     given_now = given its t asked_its placed_its anew_its noted v out way
 
     pub begin_now : (a : List ℕ) → a ≡ address → (replace : Bool) → replace ≡ load_replaces (now_of l.event out) (requests.Load nav mode a) → IsAtWork l.event out v × ((l.event.checking req ≡ false) × (IsToBegin l.event out v.loads req nav replace address × (v.states + 1 < 4294967296)))
     begin_now a a_is replace is =
-        (way.work, (asked_its.asks.aside.unchecked req, (to_begin its t asked_its placed_its anew_its noted v out way replace (is ∙ ap (λ (x : List ℕ). load_replaces (now_of l.event out) (requests.Load nav mode x)) a_is), states_room its t asked_its placed_its anew_its noted v out way)))
+        (way.work, (asked_its.asks.outside, (to_begin its t asked_its placed_its anew_its noted v out way replace (is ∙ ap (λ (x : List ℕ). load_replaces (now_of l.event out) (requests.Load nav mode x)) a_is), states_room its t asked_its placed_its anew_its noted v out way)))
 
     module _ (w : Tables) (now : List RowKind) (work : IsAtWork l.event now w) (now_is : now ≡ out ++ rows.Started req None ∷ []) (keeps : KeepsStore v w) where
       pub home_now : (header : Header) (a : List ℕ) → is_some (home_in header w nav a) ≡ true

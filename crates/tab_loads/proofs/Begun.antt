@@ -1,4 +1,6 @@
 -- A load has begun: all goes on, and its navigable stands still.
+use Rattle.log_model.specs.declared.request.Request.{Request}
+use Rattle.log_model.specs.Orders.{due_questions}
 use Rattle.seen_facts.specs.Home.Homes.{AreHomed}
 use Rattle.seen_facts.specs.Hang.Hanging.{Hangs}
 use Rattle.log_model.specs.Soundness.{IsSound}
@@ -45,10 +47,10 @@ use Rattle.tab_ids.specs.declared.Step.{Step}
 use Rattle.tab_loads.proofs.Comes.{pass, place}
 use Rattle.tab_loads.proofs.Firsts.{q}
 use Rattle.tab_loads.proofs.Gives.{IsMadeWay}
-use Rattle.tab_loads.specs.Asking.{InLoad, IsAsked}
+use Rattle.tab_loads.specs.Asking.{BeginsAnew, InLoad, IsAsked}
 use Rattle.tab_loads.specs.Giving.{HasMadeWay}
 use Rattle.tab_loads.specs.Loading.{pass_of}
-use Rattle.tab_loads.specs.Telling.{away_in, fragment_in}
+use Rattle.tab_loads.specs.Telling.{away_in}
 use Rattle.tab_moves.proofs.Procs.{home_some}
 use Rattle.tab_moves.specs.Making.{home_in}
 use Rattle.tab_one_pass.proofs.Lives.{placed_awake}
@@ -75,7 +77,11 @@ none_of f [] each = refl
 none_of f (nav ∷ navs) each =
     rw (each nav (ap (λ (b : Bool). b || has_nav navs nav) (nat_eq_refl nav.0))) (none_of f navs (λ x has. each x (either (nav.0 == x.0) has)))
 
-module _ (l : InLoad) (t : Tables) (asked : IsAsked l t) (placed_ : away_in t l.nav ≡ None) (anew_ : fragment_in t l.nav l.address ≡ None) (noted : List (StateId × ReqId)) (v : Tables) (out : List RowKind) (way : HasMadeWay l.event l.req l.nav t v out l.noted noted) (w : Tables) (now : List RowKind) (work : IsAtWork l.event now w) (now_is : now ≡ out ++ rows.Started l.req None ∷ []) (keeps : KeepsStore v w) where
+-- no number is below itself
+none_below : (n : ℕ) → nat_lt n n ≡ false
+none_below n = grind (arith, nat_tests)
+
+module _ (l : InLoad) (t : Tables) (asked : IsAsked l t) (placed_ : away_in t l.nav ≡ None) (anew_ : BeginsAnew l t) (noted : List (StateId × ReqId)) (v : Tables) (out : List RowKind) (way : HasMadeWay l.event l.req l.nav t v out l.noted noted) (w : Tables) (now : List RowKind) (work : IsAtWork l.event now w) (now_is : now ≡ out ++ rows.Started l.req None ∷ []) (keeps : KeepsStore v w) where
   abbrev s : Seen
   s = now_of l.event []
 
@@ -134,7 +140,7 @@ module _ (l : InLoad) (t : Tables) (asked : IsAsked l t) (placed_ : away_in t l.
   alone_now = starts.alone_now l t asked placed_ anew_ noted v out way
 
   pub itself : begins_no_earlier n l.req l.nav (rows.Started l.req None) ≡ true
-  itself = let same : nat_lt l.req.0 l.req.0 ≡ false = grind (arith, nat_tests) in rw made.found (rw same refl)
+  itself = let same : nat_lt l.req.0 l.req.0 ≡ false = none_below l.req.0 in rw made.found (rw same refl)
 
   pub loose_then : IsLoose l.event (out ++ rows.Started l.req None ∷ [])
   loose_then =
@@ -147,9 +153,9 @@ module _ (l : InLoad) (t : Tables) (asked : IsAsked l t) (placed_ : away_in t l.
   begun_duly : AreLeftDuly (log_of l.event now)
   begun_duly =
       duly_then l.event out (rows.Started l.req None) now now_is
-      (bare_load_duly l.event.checking (log_of l.event out) l.event.event l.event.actor made.duly (bare (λ (x : Seen). IsSound x.history) made.going.tab.sound) (bare Hangs made.going.tab.hangs) (bare AreHomed made.going.tab.homes) l.req own its.at l.nav l.mode l.address refl its.unasked)
+      (bare_load_duly l.event.checking (log_of l.event out) l.event.event l.event.actor made.duly (bare (λ (x : Seen). IsSound x.history) made.going.tab.sound) (bare Hangs made.going.tab.hangs) (bare AreHomed made.going.tab.homes) l.req (starts.as_there l t asked placed_ anew_ noted v out way).q its.at l.nav l.mode l.address its.what (ap (λ (what : Request). due_questions (log_of l.event out) what None) its.what ∙ its.unasked))
     where
-      its : IsLoadToBegin (here_of l.event out) l.req l.nav l.mode l.address own
+      its : IsLoadToBegin (here_of l.event out) l.req l.nav l.mode l.address (starts.as_there l t asked placed_ anew_ noted v out way).q
       its = starts.due l t asked placed_ anew_ noted v out way
 
       bare : (P : Seen → Type 0) → P n → P (unasked l.event.checking (log_of l.event out))

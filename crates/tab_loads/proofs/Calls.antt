@@ -32,7 +32,7 @@ use Rattle.seen_laws.specs.InEvent.{AreLegal, InEvent, log_of, now_of, start_of}
 use Rattle.std.proofs.Common.{Bool, List, None, Option, Some, [], ap, arith, false, length, refl, subst, sym, true, ℕ, ◌+◌, ◌<◌, ◌==◌, ◌∙◌, ◌∷◌, ◌≡◌}
 use Rattle.std.proofs.lemmas.Bool.Decides.{nat_tests}
 use Rattle.std.specs.Prelude.{is_some}
-use Rattle.tab_doors.specs.Working.{IsAtWork}
+use Rattle.tab_doors.specs.Working.{IsAtWork, MayDiscardIn}
 use Rattle.tab_doors.specs.declared.tables.Tables.{Tables}
 use Rattle.tab_ids.specs.declared.NavId.{NavId}
 use Rattle.tab_ids.specs.declared.ReqId.{ReqId}
@@ -46,7 +46,7 @@ use Rattle.tab_loads.proofs.Denied.{HasDenied, load_denied}
 use Rattle.tab_stands.proofs.Loads.{load_begun, load_tied}
 use Rattle.tab_stands.proofs.Waiting.{off_where_runs}
 use Rattle.tab_loads.specs.Asking.{InLoad, IsAsked}
-use Rattle.tab_loads.specs.Loading.{CameTo, IsLoadAsk, pass_of}
+use Rattle.tab_loads.specs.Loading.{CameTo, IsLoadAsk, MayWalk, pass_of}
 use Rattle.tab_loads.specs.Telling.{denial_in}
 use Rattle.tab_loads.specs.declared.loaded.Loaded.TheVariants.{Refused}
 use Rattle.tab_passes.proofs.Aims.{aim_is}
@@ -58,7 +58,7 @@ use Rattle.log_model.specs.declared.job.Why.TheVariants as whys
 use Rattle.log_model.specs.declared.request.Request.TheVariants as requests
 use Rattle.log_model.specs.declared.row_kind.RowKind.TheVariants as rows
 
-module _ (e : InEvent) (t : Tables) (queue : Queue) (blame : List (StateId × ReqId)) {check : InCheck} (stands : StandsFor check (seen_start e) t queue blame) (room : HasRoomFor (seen_start e)) (header : t.kept.keep ≡ e.header.keep) (req : ReqId) (nav : NavId) (mode : Mode) (address : List ℕ) (asks : IsLoadAsk e req nav mode address) (logged : IsLogged e t.checks) (logs : LastsInLog e.checking (log_of e [])) where
+module _ (e : InEvent) (t : Tables) (queue : Queue) (blame : List (StateId × ReqId)) {check : InCheck} (stands : StandsFor check (seen_start e) t queue blame) (room : HasRoomFor (seen_start e)) (header : t.kept.keep ≡ e.header.keep) (req : ReqId) (nav : NavId) (mode : Mode) (address : List ℕ) (asks : IsLoadAsk e req nav mode address) (logged : IsLogged e t.checks) (logs : LastsInLog e.checking (log_of e [])) (free : check.holds ≡ false → MayDiscardIn false e) where
   abbrev s : Seen
   s = seen_start e
 
@@ -70,6 +70,9 @@ module _ (e : InEvent) (t : Tables) (queue : Queue) (blame : List (StateId × Re
 
   now : now_of e [] ≡ went
   now = first_is e req nav mode address asks
+
+  walks : MayWalk e t.running
+  walks = record { holds = check.holds; alone = stands.alone; free = free }
 
   -- ---- the reason that the tables tell
 
@@ -93,7 +96,7 @@ module _ (e : InEvent) (t : Tables) (queue : Queue) (blame : List (StateId × Re
   module _ (reason : Denial) (denied : denial_at_acceptance e.start (requests.Load nav mode address) ≡ Some reason) where
     pub refuse_now : IsDeniedLoad e req reason × (IsLogged e t.checks × AreTied (now_of e []) t)
     refuse_now = (
-      record { off = asks.aside.unchecked req; nav = nav; mode = mode; address = address; by_user = asks.by_user; own = asks.own; next = asks.next; reason_is = denied; unparked = unparked_before },
+      record { off = asks.outside; nav = nav; mode = mode; address = address; by_user = asks.by_user; own = asks.own; next = asks.next; reason_is = denied; unparked = unparked_before },
       (logged, load_tied e t queue blame stands logged.read room header req nav mode address asks.by_user asks.own (next_start e req.0 asks.next)),
     )
 
@@ -102,14 +105,14 @@ module _ (e : InEvent) (t : Tables) (queue : Queue) (blame : List (StateId × Re
 
     loose : IsLoose e (rows.Refused req reason ∷ [])
     loose =
-        loose_more e [] (rows.Refused req reason) (refused_goes e [] req reason).read (loose_first e asks.aside.undue) (refused_lasts (now_of e []) e.event e.actor req reason) (λ end lasts. refl)
+        loose_more e [] (rows.Refused req reason) (refused_goes e [] req reason).read (loose_first e asks.undue) (refused_lasts (now_of e []) e.event e.actor req reason) (λ end lasts. refl)
 
     pub refused_came : (out : List RowKind) → out ≡ rows.Refused req reason ∷ [] → CameTo e req nav mode address out Refused
     refused_came out out_is = record { reason = reason; due = denied; is = out_is }
 
     pub refused_ready : (out : List RowKind) → out ≡ rows.Refused req reason ∷ [] → IsAtWork e out t → IsReady (pass_of e check.loads) out t queue blame whys.Start
     refused_ready out out_is work =
-        row_ready e req nav mode address asks t queue blame its.going its.taking its.moved its.late its.theirs header its.queueing (rows.Refused req reason) (refused_goes e [] req reason) tt tt
+        row_ready e req nav mode address asks t queue blame its.going its.taking its.moved its.late its.theirs header its.queueing walks (rows.Refused req reason) (refused_goes e [] req reason) tt tt
         (refused_changes (now_of e []) e.event e.actor req (idle e req nav mode address asks) (unjoined e req nav mode address asks t.running its.going.tab) (unparked e req nav mode address asks t.running its.going.tab) reason)
         (refused_tab e req nav mode address asks t its.going its.rests its.few its.duly reason) refl out t out_is refl refl
         (refused_passing e req nav mode address asks t its.going its.rests its.few its.duly reason (loose_owed e (rows.Refused req reason ∷ []) loose) (λ all. loose) out t out_is refl work)
@@ -123,11 +126,11 @@ module _ (e : InEvent) (t : Tables) (queue : Queue) (blame : List (StateId × Re
     legal : AreLegal e []
     unfolding AreLegal
     legal later rest =
-        uncut_pass e [] later asks.aside.uncut (subst (λ (row : LogRow). EachPass (start_of e) (row ∷ []) later) (sym (accepted_row e req None load asks.by_user asks.own)) (load_passes e.header e.start e.event req nav mode address later asks.next admitted, tt))
+        uncut_pass e [] later asks.uncut (subst (λ (row : LogRow). EachPass (start_of e) (row ∷ []) later) (sym (accepted_row e req None load asks.by_user asks.own)) (load_passes e.header e.start e.event req nav mode address later asks.next admitted, tt))
 
     begun : HasBegun (record { event = e; loads = req ∷ check.loads; hand = [] }) t queue blame
     begun =
-        load_begun e t queue blame stands logged.read room header req nav mode address asks.by_user asks.own (next_start e req.0 asks.next) admitted (with_lawful e asks.aside t.checks logged logs legal)
+        load_begun e t queue blame stands logged.read room header req nav mode address asks.by_user asks.own (next_start e req.0 asks.next) admitted (with_lawful e t.checks logged logs legal)
 
     aim_same : aim_of (now_of e []) ≡ aim_of s
     aim_same =
@@ -194,4 +197,4 @@ module _ (e : InEvent) (t : Tables) (queue : Queue) (blame : List (StateId × Re
     load_at = record { event = e; loads = check.loads; req = req; nav = nav; mode = mode; address = address; queue = queue; noted = blame }
 
     pub asked_now : IsAsked (record { event = e; loads = check.loads; req = req; nav = nav; mode = mode; address = address; queue = queue; noted = blame }) t
-    asked_now = record { asks = asks; undenied = admitted; begun = begun; busy = busy; off = off_now }
+    asked_now = record { asks = asks; undenied = admitted; begun = begun; busy = busy; off = off_now; walks = walks }

@@ -18,7 +18,7 @@ use Rattle.log_model.specs.declared.request.Mode.{Mode}
 use Rattle.log_model.specs.declared.row_kind.RowKind.{RowKind}
 use Rattle.row_facts.proofs.Owed.Rows.{reckoned_now}
 use Rattle.seen_laws.specs.InEvent.{now_of}
-use Rattle.std.proofs.Common.{Bool, List, None, Option, Some, [], ap, false, not, refl, subst, sym, true, ℕ, ◌&&◌, ◌++◌, ◌==◌, ◌||◌, ◌∙◌, ◌∷◌, ◌≡◌}
+use Rattle.std.proofs.Common.{Bool, List, None, Option, Some, [], ap, false, inl, not, refl, subst, sym, true, ℕ, ◌&&◌, ◌++◌, ◌==◌, ◌||◌, ◌∙◌, ◌∷◌, ◌≡◌}
 use Rattle.std.proofs.lemmas.Bool.{and_parts}
 use Rattle.std.specs.List.{list_all}
 use Rattle.std.specs.Prelude.{is_some, option_map}
@@ -40,7 +40,9 @@ use Rattle.tab_loads.proofs.Givens.{IsSentThere, sent_there}
 use Rattle.tab_loads.proofs.Gives.{drop_asks}
 use Rattle.tab_loads.proofs.Readies.{row_ready}
 use Rattle.tab_loads.proofs.Sends.{may_send as may_be_sent, sent_passing, tab_then, there}
+use Rattle.tab_ids.specs.declared.StateId.{StateId}
 use Rattle.tab_loads.specs.Asking.{HasCome, InLoad, IsAsked}
+use Rattle.tab_loads.specs.Giving.{HasMadeWay}
 use Rattle.tab_loads.specs.Loading.{is_way_placed, pass_of}
 use Rattle.tab_loads.specs.Telling.{aim_at, away_in, cut_by_in, fragment_in}
 use Rattle.tab_loads.specs.declared.loaded.Loaded.TheVariants.{CutOff, ToFragment}
@@ -110,7 +112,7 @@ module _ (l : InLoad) (t : Tables) (asked : IsAsked l t) where
         cut_some l.event l.req l.nav l.mode l.address asked.asks t pass asked.off asked.busy place placed un.shown x far.on_way far.own far.there far.away
 
     pub drop_may : IsAtWork l.event [] t × (IsOpenHere l.event [] l.req × ((is_this t.running l.req ≡ false) × (IsNoLoad s l.req × (l.event.checking l.req ≡ false))))
-    drop_may = (pass.work, (open_here l.event l.req l.nav l.mode l.address asked.asks t.running pass.going.tab, (apart, (no_load l.event l.req l.nav l.mode l.address asked.asks, asked.asks.aside.unchecked l.req))))
+    drop_may = (pass.work, (open_here l.event l.req l.nav l.mode l.address asked.asks t.running pass.going.tab, (apart, (no_load l.event l.req l.nav l.mode l.address asked.asks, asked.asks.outside))))
 
     module _ (by : ReqId) (cut : cut_by_in t x ≡ Some by) (u : Tables) (out : List RowKind) (work : IsAtWork l.event out u) (out_is : out ≡ rows.Dropped l.req (drops.By by) ∷ []) (same : u ≡ t) where
       paid : IsPaidFor l.event l.req l.nav l.mode l.address asked.asks t pass asked.off asked.busy place placed un.shown x far.on_way far.own far.there far.away by cut
@@ -129,7 +131,7 @@ module _ (l : InLoad) (t : Tables) (asked : IsAsked l t) where
       cut_come =
           record {
             came = (asked.undenied, record { by = by; away = away; is = out_is });
-            ready = row_ready l.event l.req l.nav l.mode l.address asked.asks t l.queue l.noted pass.going asked.begun.taking asked.begun.moved asked.begun.late asked.begun.theirs asked.begun.header asked.begun.queueing
+            ready = row_ready l.event l.req l.nav l.mode l.address asked.asks t l.queue l.noted pass.going asked.begun.taking asked.begun.moved asked.begun.late asked.begun.theirs asked.begun.header asked.begun.queueing asked.walks
                 (rows.Dropped l.req (drops.By by)) (dropped_goes l.event [] l.req (drops.By by)) tt tt (dropped_changes s l.event.event l.event.actor l.req (idle l.event l.req l.nav l.mode l.address asked.asks) (unjoined l.event l.req l.nav l.mode l.address asked.asks t.running pass.going.tab) (unparked l.event l.req l.nav l.mode l.address asked.asks t.running pass.going.tab) (drops.By by))
                 (dropped_tab l.event l.req l.nav l.mode l.address asked.asks t pass.going pass.rests pass.few pass.duly (drops.By by)) refl out u out_is (ap (λ (y : Tables). y.running) same) (ap (λ (y : Tables). y.kept.keep) same) passing;
             kept = runs_on u same;
@@ -162,13 +164,13 @@ module _ (l : InLoad) (t : Tables) (asked : IsAsked l t) where
 
       pub send_may : IsAtWork l.event [] t × ((l.event.checking l.req ≡ false) × (MaySend None l.event [] (order_to s doc (whys.Req l.req) (tasks.DoFragment l.req l.mode l.address)) × IsThere s doc))
       send_may =
-          (pass.work, (asked.asks.aside.unchecked l.req, (may_be_sent l.event l.req l.nav l.mode l.address asked.asks t pass asked.begun.loose place placed standing doc sent.wakes sent.leads, there l.event l.req l.nav l.mode l.address asked.asks t pass asked.begun.loose place placed standing doc sent.wakes sent.leads)))
+          (pass.work, (asked.asks.outside, (may_be_sent l.event l.req l.nav l.mode l.address asked.asks t pass asked.begun.loose place placed standing doc sent.wakes sent.leads, there l.event l.req l.nav l.mode l.address asked.asks t pass asked.begun.loose place placed standing doc sent.wakes sent.leads)))
 
       pub sent_come : (u : Tables) (out : List RowKind) → IsAtWork l.event out u → out ≡ rows.Sent (order_to s doc (whys.Req l.req) (tasks.DoFragment l.req l.mode l.address)) ∷ [] → KeepsStore t u → HasCome l t u out l.noted ToFragment
       sent_come u out work out_is keeps =
           record {
             came = (asked.undenied, record { fragment = record { place = place; there = placed; placed = all; is_it = sent.is }; job = order; task = refl; why = refl; doc = sent.wakes; is = out_is });
-            ready = row_ready l.event l.req l.nav l.mode l.address asked.asks t l.queue l.noted pass.going asked.begun.taking asked.begun.moved asked.begun.late asked.begun.theirs asked.begun.header asked.begun.queueing
+            ready = row_ready l.event l.req l.nav l.mode l.address asked.asks t l.queue l.noted pass.going asked.begun.taking asked.begun.moved asked.begun.late asked.begun.theirs asked.begun.header asked.begun.queueing asked.walks
                 (rows.Sent order) (sent_goes l.event [] order refl) tt tt (sent_changes s l.event.event l.event.actor pass.going.tab.asked.passed (reckoned_now l.event []) order l.req l.mode l.address)
                 (tab_then l.event l.req l.nav l.mode l.address asked.asks t pass asked.begun.loose place placed standing doc sent.wakes sent.leads) refl out u out_is keeps.running keeps.keep
                 (sent_passing l.event l.req l.nav l.mode l.address asked.asks t pass asked.begun.loose place placed standing doc sent.wakes sent.leads out u out_is keeps work);
@@ -223,3 +225,15 @@ module _ (l : InLoad) (t : Tables) (asked : IsAsked l t) (was : List RowKind) (f
       subst (λ (o : List RowKind). may_drop o nav) (sym first)
       (subst (λ (n : NavId). may_drop [] n) nav_is
       (drop_asks l.event l.req l.nav l.mode l.address asked.asks t asked.begun.passing unheld old (ap (λ (n : NavId). option_map (λ (load : Load). load.req) (ongoing_load n t.loads)) nav_is ∙ is)))
+
+-- where its navigable has none, none gives way
+pub none_way : (l : InLoad) (t : Tables) → IsAsked l t → (was : List RowKind) → was ≡ [] → (req : ReqId) (nav : NavId) (noted : List (StateId × ReqId)) → option_map (λ (load : Load). load.req) (ongoing_load nav t.loads) ≡ None → HasMadeWay l.event req nav t t was noted noted
+none_way l t asked was first req nav noted none =
+    record {
+      work = subst (λ (o : List RowKind). IsAtWork l.event o t) (sym first) asked.begun.passing.work;
+      which = inl (record { none_ = by_load (ongoing_load nav t.loads) none; out_is = first; tables = refl; noted_is = refl });
+    }
+  where
+    by_load : (o : Option Load) → option_map (λ (load : Load). load.req) o ≡ None → o ≡ None
+    by_load None is = refl
+    by_load (Some load) never = absurd cc

@@ -75,7 +75,7 @@ module _ (e : InEvent) (t : Tables) (queue : Queue) (blame : List (StateId × Re
   unheld r n load_ =
       let its : IsAskedFor (now_of e []) r n = asked_for (now_of e []) r n load_ in
       let way : 0 < times_on_way (request_in (now_of e []).requests r) = subst (λ (o : Option Asked). 0 < times_on_way o) (sym its.at) (let one : 0 < ways_of its.q = rw its.ongoing (omega arith) in one) in
-      ap (λ (l : List ReqId). has_req l r) (sym (uncut_held e asks.aside.uncut)) ∙ (way_unheld t.running (req ∷ check.loads) [] (now_of e []) tab r way).parked
+      ap (λ (l : List ReqId). has_req l r) (sym (uncut_held e asks.uncut)) ∙ (way_unheld t.running (req ∷ check.loads) [] (now_of e []) tab r way).parked
 
   taking : IsTaking e t.running blame (now_of e [])
   taking =
@@ -100,7 +100,7 @@ module _ (e : InEvent) (t : Tables) (queue : Queue) (blame : List (StateId × Re
           absurd cc
 
   waits : IsWaiting e []
-  waits = waiting_first e asks.aside.uncut tab.known early
+  waits = waiting_first e asks.uncut tab.known early
 
   queued : HasQueue (now_of e []) t.running queue.waiting
   queued =
@@ -117,5 +117,5 @@ module _ (e : InEvent) (t : Tables) (queue : Queue) (blame : List (StateId × Re
         moved = moved_coming blame (seen_start e) (now_of e []) comes t.running stands.between.tab.asked stands.lasts.moved;
         theirs = comes.theirs;
         duly = logs.duly;
-        queueing = queueing_now e req None load asks.by_user asks.own (next_start e req.0 asks.next) logged.read t queue blame stands asks.aside.uncut (req ∷ check.loads) queue aim waits queued refl;
+        queueing = queueing_now e req None load asks.by_user asks.own (next_start e req.0 asks.next) logged.read t queue blame stands asks.uncut (req ∷ check.loads) queue aim waits queued refl;
       }

@@ -1,9 +1,9 @@
 -- The load as its event begins: it is there by the next number, open and unstarted, at hand and nowhere else.
-use Rattle.seen_laws.proofs.InEvents.{uncut_first}
+use Rattle.seen_laws.proofs.InEvents.{uncut_first, uncut_log}
 use Rattle.tab_doors.proofs.Uncut.{uncut_held}
 use Rattle.seen_facts.proofs.Coord.Unread.{next}
 use Rattle.load_doors.specs.Loading.{IsOpenHere}
-use Rattle.log_model.specs.After.{new_request}
+use Rattle.log_model.specs.After.{after, new_request}
 use Rattle.log_model.specs.Equal.{has_req}
 use Rattle.log_model.specs.Places.{is_ongoing_load}
 use Rattle.log_model.specs.Points.{is_accepted_here}
@@ -15,7 +15,7 @@ use Rattle.seen_facts.proofs.Request.LookUps.{one_more}
 use Rattle.seen_facts.proofs.Request.Times.{itself, times_none}
 use Rattle.seen_facts.specs.Request.Whereabouts.{is_of_load}
 use Rattle.seen_laws.specs.Blocks.{Here, point_at}
-use Rattle.seen_laws.specs.InEvent.{InEvent, here_of, now_of, seen_here}
+use Rattle.seen_laws.specs.InEvent.{InEvent, here_of, log_of, now_of, row_of, seen_here}
 use Rattle.std.proofs.Common.{List, None, Option, Some, [], ap, arith, cond, false, length, refl, subst, sym, true, ℕ, ◌==◌, ◌∙◌, ◌∷◌, ◌≡◌}
 use Rattle.std.proofs.lemmas.Bool.Decides.{nat_tests}
 use Rattle.std.specs.Prelude.{nat_lt}
@@ -24,7 +24,6 @@ use Rattle.tab_ids.specs.declared.NavId.{NavId}
 use Rattle.tab_ids.specs.declared.ReqId.{ReqId}
 use Rattle.load_doors.proofs.Starts.{next_start}
 use Rattle.load_doors.specs.Logged.{seen_start}
-use Rattle.tab_stands.proofs.Logged.{own_read}
 use Rattle.tab_loads.specs.Loading.{IsLoadAsk}
 use Rattle.tab_facts.proofs.TabWhole.Where.{at_most_once}
 use Rattle.tab_facts.specs.TabWhole.Tab.{IsTab}
@@ -37,13 +36,19 @@ module _ (e : InEvent) (req : ReqId) (nav : NavId) (mode : Mode) (address : List
   q = new_request req None (requests.Load nav mode address)
 
   pub first_is : now_of e [] ≡ next (seen_start e) e.event e.actor (rows.Accepted req None (requests.Load nav mode address))
-  first_is = own_read e asks.aside ∙ ap (λ (k : RowKind). next (seen_start e) e.event e.actor k) asks.own
+  first_is = asks.read ∙ ap (λ (k : RowKind). next (seen_start e) e.event e.actor k) asks.own
 
   pub found : request_of (now_of e []) req ≡ Some q
   found = ap (λ (s : Seen). request_of s req) first_is ∙ one_more (seen_start e).requests q req (next_start e req.0 asks.next)
 
   pub accepted_here : is_accepted_here (point_at (here_of e []) []) req ≡ true
-  accepted_here = subst (λ (h : Here). is_accepted_here (point_at h []) req ≡ true) (sym (uncut_first e asks.aside.uncut)) (let number = asks.next in let more : nat_lt (length e.start.requests) req.0 ≡ true = grind (arith, nat_tests, number) in more)
+  accepted_here = subst (λ (h : Here). is_accepted_here (point_at h []) req ≡ true) (sym (uncut_first e asks.uncut)) (let number = asks.next in let more : nat_lt (length e.start.requests) req.0 ≡ true = grind (arith, nat_tests, number) in more)
+
+  -- it is there in the log
+  pub found_log : request_of (log_of e []) req ≡ Some q
+  found_log =
+      ap (λ (s : Seen). request_of s req) (uncut_log e asks.uncut ∙ ap (λ (k : RowKind). after e.start (row_of e k)) asks.own)
+      ∙ one_more e.start.requests q req asks.next
 
   -- so in the log as it would be had nobody been asked
   pub accepted_seen : is_accepted_here (point_at (seen_here e []) []) req ≡ true
@@ -75,4 +80,4 @@ module _ (e : InEvent) (req : ReqId) (nav : NavId) (mode : Mode) (address : List
         times_none req (now_of e []).parked (let all = at_most_once run (req ∷ behind) [] (now_of e []) tab req in omega (arith, all, own))
 
     pub open_here : IsOpenHere e [] req
-    open_here = record { asked = q; at = found; open_ = refl; unparked = unparked; unheld = ap (λ (l : List ReqId). has_req l req) (sym (uncut_held e asks.aside.uncut)) ∙ unparked }
+    open_here = record { asked = q; at = found; open_ = refl; unparked = unparked; unheld = ap (λ (l : List ReqId). has_req l req) (sym (uncut_held e asks.uncut)) ∙ unparked }

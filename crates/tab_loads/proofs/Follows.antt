@@ -1,5 +1,4 @@
 -- A pass may follow once the document of a load that has begun is being made.
-use Rattle.tab_doors.proofs.Works.{none_steps}
 use Rattle.std.specs.List.{list_any}
 use Rattle.log_model.specs.Queue.{is_traverse}
 use Rattle.seen_facts.specs.Asked.Asking.{ArePlain}
@@ -13,7 +12,7 @@ use Rattle.log_model.specs.Seen.{Asked, Document, Place, Seen, document_of, plac
 use Rattle.log_model.specs.declared.job.Job.{Job}
 use Rattle.log_model.specs.declared.row_kind.RowKind.{RowKind}
 use Rattle.seen_facts.proofs.Request.Readers.{SameReads, reads_then}
-use Rattle.seen_laws.specs.InEvent.{now_of, row_of, log_of}
+use Rattle.seen_laws.specs.InEvent.{now_of, row_of}
 use Rattle.std.proofs.Common.{List, None, Option, Some, [], ap, append_assoc, false, inl, inr, refl, subst, sym, ℕ, ◌++◌, ◌+◌, ◌∙◌, ◌∷◌, ◌≡◌, ◌⊎◌, map}
 use Rattle.tab_doors.specs.Orders.{next_order}
 use Rattle.tab_doors.specs.Working.{IsAtWork, KeepsRun, KeepsStore}
@@ -34,17 +33,17 @@ use Rattle.tab_loads.proofs.Gives.{IsMadeWay, theirs_more}
 use Rattle.tab_loads.proofs.Leaving.{IsFresh, LeavesMost, taking_by}
 use Rattle.tab_loads.proofs.Orders.{order_of}
 use Rattle.tab_loads.proofs.Readies.{queueing_then}
-use Rattle.tab_loads.specs.Asking.{HasCome, InLoad, IsAsked}
+use Rattle.tab_loads.specs.Asking.{BeginsAnew, HasCome, InLoad, IsAsked}
 use Rattle.tab_loads.specs.Giving.{HasDropped, HasMadeWay, HasNone}
 use Rattle.tab_loads.specs.Loading.{HasGivenWay, HasLoadBegun, pass_of}
-use Rattle.tab_loads.specs.Telling.{away_in, fragment_in}
+use Rattle.tab_loads.specs.Telling.{away_in}
 use Rattle.tab_loads.specs.declared.loaded.Loaded.TheVariants.{Begun}
 use Rattle.tab_moves.specs.Making.{home_in}
 use Rattle.tab_passes.specs.Causes.{MayCause}
 use Rattle.tab_passes.specs.Passing.{IsPassing}
 use Rattle.tab_stands.proofs.PassedOn.{IsUnapplied, IsUnmoving, late_put, leaves_then, shown_put}
-use Rattle.tab_stands.proofs.Ready.{calm_before}
-use Rattle.tab_stands.specs.PassedOn.{AreBlamed, IsLoadOf as LoadOf, IsReady, IsTaking, LateKnown, LeavesQueue, LoadsLive, LoadsMadeOwn, MovedAreShown}
+use Rattle.tab_stands.proofs.Ready.{calm_before, frees_open}
+use Rattle.tab_stands.specs.PassedOn.{AreBlamed, IsLoadOf as LoadOf, IsReady, IsTaking, LateKnown, LeavesQueue, LoadsLive, LoadsMadeOwn, MovedAreShown, NoneRunsWhileHeld}
 use Rattle.tab_turns.proofs.Turned.{causes_on}
 use Rattle.log_model.specs.declared.job.Task.TheVariants as tasks
 use Rattle.log_model.specs.declared.job.Why.TheVariants as whys
@@ -58,7 +57,7 @@ use Rattle.tab_loads.proofs.Queues as queues
 use Rattle.tab_loads.proofs.Sent as sent
 use Rattle.tab_loads.proofs.Starts as starts
 
-module _ (l : InLoad) (t : Tables) (asked : IsAsked l t) (placed_ : away_in t l.nav ≡ None) (anew_ : fragment_in t l.nav l.address ≡ None) (noted : List (StateId × ReqId)) (v : Tables) (out : List RowKind) (way : HasMadeWay l.event l.req l.nav t v out l.noted noted) (w : Tables) (now : List RowKind) (work : IsAtWork l.event now w) (now_is : now ≡ out ++ rows.Started l.req None ∷ []) (keeps : KeepsStore v w) (proc : ProcId) (home : home_in l.event.header w l.nav l.address ≡ Some proc) (y : Tables) (last : List RowKind) (work_y : IsAtWork l.event last y) (last_is : last ≡ now ++ rows.Sent (order_of l w now proc) ∷ []) (keeps_y : KeepsStore w y) where
+module _ (l : InLoad) (t : Tables) (asked : IsAsked l t) (placed_ : away_in t l.nav ≡ None) (anew_ : BeginsAnew l t) (noted : List (StateId × ReqId)) (v : Tables) (out : List RowKind) (way : HasMadeWay l.event l.req l.nav t v out l.noted noted) (w : Tables) (now : List RowKind) (work : IsAtWork l.event now w) (now_is : now ≡ out ++ rows.Started l.req None ∷ []) (keeps : KeepsStore v w) (proc : ProcId) (home : home_in l.event.header w l.nav l.address ≡ Some proc) (y : Tables) (last : List RowKind) (work_y : IsAtWork l.event last y) (last_is : last ≡ now ++ rows.Sent (order_of l w now proc) ∷ []) (keeps_y : KeepsStore w y) where
   abbrev s : Seen
   s = now_of l.event []
 
@@ -185,7 +184,7 @@ module _ (l : InLoad) (t : Tables) (asked : IsAsked l t) (placed_ : away_in t l.
   pub unapplied : has_traversed l.event last ≡ false
   unapplied =
       ap (λ (o : List RowKind). has_traversed l.event o) last_all
-      ∙ ap (λ (o : List RowKind). list_any is_traverse (map (row_of l.event) o ++ map (row_of l.event) (whole out))) asked.asks.aside.uncut
+      ∙ ap (λ (o : List RowKind). list_any is_traverse (map (row_of l.event) o ++ map (row_of l.event) (whole out))) asked.asks.uncut
       ∙ by_case way.which
     where
       by_case : HasNone l.nav t v out l.noted noted ⊎ HasDropped l.req l.nav t v out l.noted noted → list_any is_traverse (map (row_of l.event) (whole out)) ≡ false
@@ -246,7 +245,7 @@ module _ (l : InLoad) (t : Tables) (asked : IsAsked l t) (placed_ : away_in t l.
         header = keep_y ∙ asked.begun.header;
         open_ = taken_last.open_ (whys.Req l.req) causes_last;
         loads = taken_last.loads;
-        frees = λ at_nav place placed need since. none_steps l.event.checking asked.asks.aside.unchecked (log_of l.event []);
+        frees = frees_open l.event asked.walks.holds y.running (now_of l.event last) (subst (λ (r : Option ReqId). NoneRunsWhileHeld asked.walks.holds r) (sym run_y) asked.walks.alone) asked.walks.free taken_last.open_;
         blamed = taken_last.blamed;
         calm = calm_before y.running (whys.Req l.req) (now_of l.event last) taken_last.calm taken_last.unmoved taken_last.rooted;
         late = late_last;

@@ -36,9 +36,9 @@ use Rattle.tab_loads.proofs.Comes.{pass}
 use Rattle.tab_loads.proofs.Firsts.{open_here, q}
 use Rattle.tab_loads.proofs.Leaving.{IsFresh, LeavesMost}
 use Rattle.tab_loads.proofs.Orders.{order_of}
-use Rattle.tab_loads.specs.Asking.{InLoad, IsAsked}
+use Rattle.tab_loads.specs.Asking.{BeginsAnew, InLoad, IsAsked}
 use Rattle.tab_loads.specs.Giving.{HasMadeWay}
-use Rattle.tab_loads.specs.Telling.{away_in, fragment_in}
+use Rattle.tab_loads.specs.Telling.{away_in}
 use Rattle.tab_moves.specs.Making.{home_in}
 use Rattle.tab_passes.specs.Causes.{MayCause, MayServe}
 use Rattle.tab_stands.proofs.PassedOn.{reached_same}
@@ -82,7 +82,7 @@ req_same a b is =
     let number : a.0 ≡ b.0 = grind (arith, nat_tests, is) in
     ap (λ (k : ℕ). let r : ReqId = record { 0 = k } in r) number
 
-module _ (l : InLoad) (t : Tables) (asked : IsAsked l t) (placed_ : away_in t l.nav ≡ None) (anew_ : fragment_in t l.nav l.address ≡ None) (noted : List (StateId × ReqId)) (v : Tables) (out : List RowKind) (way : HasMadeWay l.event l.req l.nav t v out l.noted noted) (w : Tables) (now : List RowKind) (work : IsAtWork l.event now w) (now_is : now ≡ out ++ rows.Started l.req None ∷ []) (keeps : KeepsStore v w) (proc : ProcId) (home : home_in l.event.header w l.nav l.address ≡ Some proc) (y : Tables) (last : List RowKind) (work_y : IsAtWork l.event last y) (last_is : last ≡ now ++ rows.Sent (order_of l w now proc) ∷ []) (keeps_y : KeepsStore w y) where
+module _ (l : InLoad) (t : Tables) (asked : IsAsked l t) (placed_ : away_in t l.nav ≡ None) (anew_ : BeginsAnew l t) (noted : List (StateId × ReqId)) (v : Tables) (out : List RowKind) (way : HasMadeWay l.event l.req l.nav t v out l.noted noted) (w : Tables) (now : List RowKind) (work : IsAtWork l.event now w) (now_is : now ≡ out ++ rows.Started l.req None ∷ []) (keeps : KeepsStore v w) (proc : ProcId) (home : home_in l.event.header w l.nav l.address ≡ Some proc) (y : Tables) (last : List RowKind) (work_y : IsAtWork l.event last y) (last_is : last ≡ now ++ rows.Sent (order_of l w now proc) ∷ []) (keeps_y : KeepsStore w y) where
   abbrev s : Seen
   s = now_of l.event []
 

@@ -12,6 +12,8 @@ pub mod Ones
 pub mod Readies
 pub mod Gives
 pub mod Comes
+pub mod Reals
+pub mod Asks
 pub mod Starts
 pub mod Begun
 pub mod Makes

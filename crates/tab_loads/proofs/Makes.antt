@@ -46,10 +46,10 @@ use Rattle.tab_ids.specs.declared.StateId.{StateId}
 use Rattle.tab_loads.proofs.Comes.{pass, place}
 use Rattle.tab_loads.proofs.Firsts.{q}
 use Rattle.tab_loads.proofs.Gives.{IsMadeWay}
-use Rattle.tab_loads.specs.Asking.{InLoad, IsAsked}
+use Rattle.tab_loads.specs.Asking.{BeginsAnew, InLoad, IsAsked}
 use Rattle.tab_loads.specs.Giving.{HasMadeWay}
 use Rattle.tab_loads.specs.Loading.{pass_of}
-use Rattle.tab_loads.specs.Telling.{away_in, fragment_in}
+use Rattle.tab_loads.specs.Telling.{away_in}
 use Rattle.tab_passes.proofs.Goings.{goes_on}
 use Rattle.tab_passes.proofs.SetOuts.{started_out}
 use Rattle.tab_passes.specs.Causes.{HasSetOut, MayCause, MayServe}
@@ -64,7 +64,11 @@ all_of : {A : Type 0} (f : A → Bool) (xs : List A) → ((x : A) → Has xs x �
 all_of f [] each = refl
 all_of f (x ∷ xs) each = rw (each x (inl refl)) (all_of f xs (λ y there. each y (inr there)))
 
-module _ (l : InLoad) (t : Tables) (asked : IsAsked l t) (placed_ : away_in t l.nav ≡ None) (anew_ : fragment_in t l.nav l.address ≡ None) (noted : List (StateId × ReqId)) (v : Tables) (out : List RowKind) (way : HasMadeWay l.event l.req l.nav t v out l.noted noted) (w : Tables) (now : List RowKind) (work : IsAtWork l.event now w) (now_is : now ≡ out ++ rows.Started l.req None ∷ []) (keeps : KeepsStore v w) where
+-- two numbers aren't the same and apart
+never_apart : {A : Type 0} (a b : ℕ) → a ≡ b → (a == b) ≡ false → A
+never_apart a b number apart_ = absurd (grind (arith, nat_tests, number, apart_))
+
+module _ (l : InLoad) (t : Tables) (asked : IsAsked l t) (placed_ : away_in t l.nav ≡ None) (anew_ : BeginsAnew l t) (noted : List (StateId × ReqId)) (v : Tables) (out : List RowKind) (way : HasMadeWay l.event l.req l.nav t v out l.noted noted) (w : Tables) (now : List RowKind) (work : IsAtWork l.event now w) (now_is : now ≡ out ++ rows.Started l.req None ∷ []) (keeps : KeepsStore v w) where
   abbrev s : Seen
   s = now_of l.event []
 
@@ -214,7 +218,7 @@ module _ (l : InLoad) (t : Tables) (asked : IsAsked l t) (placed_ : away_in t l.
           by_state false one = refl
           by_state true one =
               let number : other.0 ≡ l.req.0 = apart_number other x at on (is ∙ ap (λ (y : StateId). let r : Option StateId = Some y in r) (same k one)) in
-              absurd (grind (arith, nat_tests, number, apart_))
+              never_apart other.0 l.req.0 number apart_
 
   pub loads_state : load_of_state m its_state ≡ Some own_then
   loads_state = ongoing_there m l.req own_then its_state found_then refl state_is alone_state

@@ -16,10 +16,10 @@ use Rattle.tab_ids.specs.declared.ProcId.{ProcId}
 use Rattle.tab_ids.specs.declared.ReqId.{ReqId}
 use Rattle.tab_ids.specs.declared.StateId.{StateId}
 use Rattle.tab_loads.proofs.Firsts.{q}
-use Rattle.tab_loads.specs.Asking.{InLoad, IsAsked}
+use Rattle.tab_loads.specs.Asking.{BeginsAnew, InLoad, IsAsked}
 use Rattle.tab_loads.specs.Giving.{HasMadeWay}
 use Rattle.tab_loads.specs.Loading.{pass_of}
-use Rattle.tab_loads.specs.Telling.{away_in, fragment_in}
+use Rattle.tab_loads.specs.Telling.{away_in}
 use Rattle.tab_moves.proofs.Procs.{home_is}
 use Rattle.tab_moves.specs.Making.{home_in}
 use Rattle.tab_passes.proofs.Goings.{is_passed_for}
@@ -38,7 +38,7 @@ abbrev pub order_of : InLoad → Tables → List RowKind → ProcId → Job
 order_of l w now proc =
     next_order (now_of l.event now).jobs proc (record { 0 = w.documents + 1 }) (whys.Req l.req) (tasks.Populate l.nav (record { 0 = w.states }) l.address false)
 
-module _ (l : InLoad) (t : Tables) (asked : IsAsked l t) (placed_ : away_in t l.nav ≡ None) (anew_ : fragment_in t l.nav l.address ≡ None) (noted : List (StateId × ReqId)) (v : Tables) (out : List RowKind) (way : HasMadeWay l.event l.req l.nav t v out l.noted noted) (w : Tables) (now : List RowKind) (work : IsAtWork l.event now w) (now_is : now ≡ out ++ rows.Started l.req None ∷ []) (keeps : KeepsStore v w) (proc : ProcId) (home : home_in l.event.header w l.nav l.address ≡ Some proc) where
+module _ (l : InLoad) (t : Tables) (asked : IsAsked l t) (placed_ : away_in t l.nav ≡ None) (anew_ : BeginsAnew l t) (noted : List (StateId × ReqId)) (v : Tables) (out : List RowKind) (way : HasMadeWay l.event l.req l.nav t v out l.noted noted) (w : Tables) (now : List RowKind) (work : IsAtWork l.event now w) (now_is : now ≡ out ++ rows.Started l.req None ∷ []) (keeps : KeepsStore v w) (proc : ProcId) (home : home_in l.event.header w l.nav l.address ≡ Some proc) where
   abbrev n : Seen
   n = now_of l.event out
 

@@ -26,9 +26,9 @@ use Rattle.tab_ids.specs.declared.ReqId.{ReqId}
 use Rattle.tab_ids.specs.declared.StateId.{StateId}
 use Rattle.tab_loads.proofs.Firsts.{q}
 use Rattle.tab_loads.proofs.Orders.{order_of}
-use Rattle.tab_loads.specs.Asking.{InLoad, IsAsked}
+use Rattle.tab_loads.specs.Asking.{BeginsAnew, InLoad, IsAsked}
 use Rattle.tab_loads.specs.Giving.{HasMadeWay}
-use Rattle.tab_loads.specs.Telling.{away_in, fragment_in}
+use Rattle.tab_loads.specs.Telling.{away_in}
 use Rattle.tab_moves.specs.Making.{home_in}
 use Rattle.log_model.specs.declared.job.Task.TheVariants as tasks
 use Rattle.log_model.specs.declared.job.Why.TheVariants as whys
@@ -58,7 +58,7 @@ req_same a b is =
     let number : a.0 ≡ b.0 = grind (arith, nat_tests, is) in
     ap (λ (k : ℕ). let r : ReqId = record { 0 = k } in r) number
 
-module _ (l : InLoad) (t : Tables) (asked : IsAsked l t) (placed_ : away_in t l.nav ≡ None) (anew_ : fragment_in t l.nav l.address ≡ None) (noted : List (StateId × ReqId)) (v : Tables) (out : List RowKind) (way : HasMadeWay l.event l.req l.nav t v out l.noted noted) (w : Tables) (now : List RowKind) (work : IsAtWork l.event now w) (now_is : now ≡ out ++ rows.Started l.req None ∷ []) (keeps : KeepsStore v w) (proc : ProcId) (home : home_in l.event.header w l.nav l.address ≡ Some proc) (y : Tables) (last : List RowKind) (work_y : IsAtWork l.event last y) (last_is : last ≡ now ++ rows.Sent (order_of l w now proc) ∷ []) (keeps_y : KeepsStore w y) where
+module _ (l : InLoad) (t : Tables) (asked : IsAsked l t) (placed_ : away_in t l.nav ≡ None) (anew_ : BeginsAnew l t) (noted : List (StateId × ReqId)) (v : Tables) (out : List RowKind) (way : HasMadeWay l.event l.req l.nav t v out l.noted noted) (w : Tables) (now : List RowKind) (work : IsAtWork l.event now w) (now_is : now ≡ out ++ rows.Started l.req None ∷ []) (keeps : KeepsStore v w) (proc : ProcId) (home : home_in l.event.header w l.nav l.address ≡ Some proc) (y : Tables) (last : List RowKind) (work_y : IsAtWork l.event last y) (last_is : last ≡ now ++ rows.Sent (order_of l w now proc) ∷ []) (keeps_y : KeepsStore w y) where
   abbrev n : Seen
   n = now_of l.event out
 

@@ -1,5 +1,4 @@
 -- A pass may follow once the load was refused or dropped, or a document was sent to a fragment for it, by the first row that was put out.
-use Rattle.tab_doors.proofs.Works.{none_steps}
 use Rattle.std.specs.List.{list_any}
 use Rattle.seen_facts.proofs.Coord.Held.{held_alike}
 use Rattle.seen_facts.proofs.Coord.Unread.{next}
@@ -16,7 +15,7 @@ use Rattle.log_model.specs.declared.row_kind.RowKind.{RowKind}
 use Rattle.move_queue.specs.Queue.{Queue}
 use Rattle.seen_facts.proofs.Request.Readers.{SameReads}
 use Rattle.seen_laws.proofs.InEvents.{now_more}
-use Rattle.seen_laws.specs.InEvent.{InEvent, now_of, row_of, GoesThere, log_of}
+use Rattle.seen_laws.specs.InEvent.{InEvent, now_of, row_of, GoesThere}
 use Rattle.std.proofs.Common.{Bool, List, Option, [], ap, false, inl, inr, refl, subst, sym, true, ℕ, ◌||◌, ◌∙◌, ◌∷◌, ◌≡◌, ◌⊎◌, map, ◌++◌}
 use Rattle.tab_doors.specs.declared.tables.Tables.{Tables}
 use Rattle.tab_facts.specs.TabGoing.Going.{IsGoing}
@@ -27,12 +26,12 @@ use Rattle.tab_loads.proofs.Changes.{ChangesOne}
 use Rattle.tab_loads.proofs.Cuts.{first_pass}
 use Rattle.tab_loads.proofs.Firsts.{found, q}
 use Rattle.tab_loads.proofs.Ones.{one_leaves, one_taking}
-use Rattle.tab_loads.specs.Loading.{IsLoadAsk, pass_of}
+use Rattle.tab_loads.specs.Loading.{IsLoadAsk, MayWalk, pass_of}
 use Rattle.tab_passes.specs.Passing.{InPass, IsPassing}
 use Rattle.tab_stands.proofs.Dones.{MayRelease}
 use Rattle.tab_stands.proofs.PassedOn.{IsUnapplied, IsUnmoving, late_put, mades_same, queue_over, shown_put, theirs_over, waiting_on}
-use Rattle.tab_stands.proofs.Ready.{calm_before}
-use Rattle.tab_stands.specs.PassedOn.{HasQueue, IsReady, IsTaking, LateKnown, LeavesQueue, LoadsMadeOwn, MovedAreShown}
+use Rattle.tab_stands.proofs.Ready.{calm_before, frees_open}
+use Rattle.tab_stands.specs.PassedOn.{HasQueue, IsReady, IsTaking, LateKnown, LeavesQueue, LoadsMadeOwn, MovedAreShown, NoneRunsWhileHeld}
 use Rattle.tab_stands.specs.Standing.{IsQueueing}
 use Rattle.tab_facts.specs.TabWhole.Tab.{IsTab}
 use Rattle.log_model.specs.declared.job.Why.TheVariants as whys
@@ -76,7 +75,7 @@ module _ (e : InEvent) (by : e.actor ≡ actors.Ui) (p one : InPass) (same_p : p
 
 -- ---- one row
 
-module _ (e : InEvent) (req : ReqId) (nav : NavId) (mode : Mode) (address : List ℕ) (asks : IsLoadAsk e req nav mode address) (t : Tables) (queue : Queue) (blame : List (StateId × ReqId)) {behind : List ReqId} (going : IsGoing t.running (req ∷ behind) [] (now_of e [])) (taking : IsTaking e t.running blame (now_of e [])) (moved : MovedAreShown t.running (now_of e [])) (late : LateKnown t.running (now_of e [])) (theirs : LoadsMadeOwn (now_of e [])) (header : t.kept.keep ≡ e.header.keep) (queueing : IsQueueing (first_pass e req behind) [] t queue) where
+module _ (e : InEvent) (req : ReqId) (nav : NavId) (mode : Mode) (address : List ℕ) (asks : IsLoadAsk e req nav mode address) (t : Tables) (queue : Queue) (blame : List (StateId × ReqId)) {behind : List ReqId} (going : IsGoing t.running (req ∷ behind) [] (now_of e [])) (taking : IsTaking e t.running blame (now_of e [])) (moved : MovedAreShown t.running (now_of e [])) (late : LateKnown t.running (now_of e [])) (theirs : LoadsMadeOwn (now_of e [])) (header : t.kept.keep ≡ e.header.keep) (queueing : IsQueueing (first_pass e req behind) [] t queue) (walks : MayWalk e t.running) where
   abbrev s : Seen
   s = now_of e []
 
@@ -102,7 +101,7 @@ module _ (e : InEvent) (req : ReqId) (nav : NavId) (mode : Mode) (address : List
     none_applied : has_traversed e new ≡ false
     none_applied =
         ap (λ (l : List RowKind). has_traversed e l) out_is
-        ∙ ap (λ (l : List RowKind). list_any is_traverse (map (row_of e) l ++ row_of e row ∷ [])) asks.aside.uncut
+        ∙ ap (λ (l : List RowKind). list_any is_traverse (map (row_of e) l ++ row_of e row ∷ [])) asks.uncut
         ∙ or_none (is_traverse (row_of e row)) unapplied
 
     open_now : IsTaking e u.running blame (now_of e new)
@@ -136,7 +135,7 @@ module _ (e : InEvent) (req : ReqId) (nav : NavId) (mode : Mode) (address : List
           header = keep ∙ header;
           open_ = open_now.open_ whys.Start (λ r never. absurd cc);
           loads = open_now.loads;
-          frees = λ at_nav place placed need since. none_steps e.checking asks.aside.unchecked (log_of e []);
+          frees = frees_open e walks.holds u.running (now_of e new) (subst (λ (r : Option ReqId). NoneRunsWhileHeld walks.holds r) (sym run) walks.alone) walks.free open_now.open_;
           blamed = open_now.blamed;
           calm = calm_before u.running whys.Start (now_of e new) open_now.calm open_now.unmoved open_now.rooted;
           late = late_now;

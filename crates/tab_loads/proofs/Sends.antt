@@ -1,9 +1,8 @@
 -- The document of the load's navigable is sent to a fragment: the order may be sent, and all goes on then.
-use Rattle.seen_laws.proofs.InEvents.{led_here}
+use Rattle.seen_laws.proofs.InEvents.{led_here, now_is as read_off}
 use Rattle.tab_passes.proofs.PassedOn.{sent_duly}
 use Rattle.tab_doors.proofs.PassedOn.{sent_goes, sent_now}
 use Rattle.seen_laws.specs.Sending.{IsNumbered}
-use Rattle.seen_laws.specs.Blocks.{Here}
 use Rattle.seen_facts.proofs.Coord.Unread.{next}
 use Rattle.seen_facts.specs.Home.Homes.{IsAtHome}
 use Rattle.tab_facts.proofs.Last.Orders.{fragment_lasting}
@@ -12,7 +11,7 @@ use Rattle.row_facts.specs.LeaveRows.Fragments.{IsFragmentDue}
 use Rattle.log_model.proofs.Refl.{nat_eq_refl}
 use Rattle.log_model.specs.Equal.{holds}
 use Rattle.log_model.specs.Places.{aim_of, given_row, is_fragment_navigation, stands}
-use Rattle.log_model.specs.Seen.{Place, Seen, awake, place_of}
+use Rattle.log_model.specs.Seen.{Document, Place, Seen, awake, place_of}
 use Rattle.log_model.specs.declared.job.Job.{Job}
 use Rattle.log_model.specs.declared.request.Mode.{Mode}
 use Rattle.log_model.specs.declared.row.Row.{Row}
@@ -22,8 +21,9 @@ use Rattle.row_facts.proofs.Owed.Rows.{sent_lasts}
 use Rattle.row_facts.specs.Owed.Owed.{IsLoose}
 use Rattle.row_facts.proofs.RestRows.Orders.{told_rests}
 use Rattle.row_facts.specs.RestRows.Moving.{AllRest}
-use Rattle.seen_laws.specs.InEvent.{InEvent, here_of, log_of, now_of, seen_here}
+use Rattle.seen_laws.specs.InEvent.{InEvent, here_of, log_of, now_of}
 use Rattle.std.proofs.Common.{Bool, List, None, Option, Some, [], ap, false, length, refl, subst, sym, true, ℕ, ◌||◌, ◌∙◌, ◌∷◌, ◌≡◌, ◌≤◌}
+use Rattle.tab_doors.proofs.Leavable.{IsInLog, in_log, numbered_log}
 use Rattle.tab_doors.proofs.Whose.{proc_found}
 use Rattle.tab_doors.proofs.Works.{numbered}
 use Rattle.tab_doors.specs.Orders.{IsThere, order_to}
@@ -35,7 +35,8 @@ use Rattle.tab_ids.specs.declared.DocId.{DocId}
 use Rattle.tab_ids.specs.declared.NavId.{NavId}
 use Rattle.tab_ids.specs.declared.ReqId.{ReqId}
 use Rattle.tab_loads.proofs.Cuts.{first_pass}
-use Rattle.tab_loads.proofs.Firsts.{accepted_seen, found, q}
+use Rattle.tab_loads.proofs.Firsts.{accepted_here, found, found_log, q}
+use Rattle.tab_loads.proofs.Reals.{aim_there, read_there}
 use Rattle.tab_loads.specs.Loading.{IsLoadAsk, pass_of}
 use Rattle.tab_passes.specs.Passing.{IsPassing}
 use Rattle.tab_facts.proofs.TabWhole.Sending.{IsToMade, sent_home}
@@ -70,35 +71,40 @@ module _ (e : InEvent) (req : ReqId) (nav : NavId) (mode : Mode) (address : List
   named : place.nav ≡ nav
   named = found_nav s.places nav place placed
 
-  due_seen : IsFragmentDue (seen_here e []) order home.document req nav mode address (q e req nav mode address asks)
-  unfolding now_of
-  due_seen =
+  -- the document as the log has it, with its handler
+  its : IsInLog e [] doc home.document
+  its = in_log e [] (read_off e []) doc home.document home.found
+
+  due : IsFragmentDue (here_of e []) order its.d req nav mode address (q e req nav mode address asks)
+  due =
       (let row = some_row (given_row s place) (λ (r : Row). is_fragment_navigation r.address address) leads in record {
         task = refl;
-        to = record { found = home.found; proc = proc_is; alive = alive };
-        at = found e req nav mode address asks;
+        to = record {
+          found = its.found;
+          proc = ap (λ (x : Document). x.proc) (sym its.is) ∙ proc_is;
+          alive = ap (λ (x : Document). x.is_discarded || x.is_known_dead) (sym its.is) ∙ alive;
+        };
+        at = found_log e req nav mode address asks;
         what = refl;
-        accepted = accepted_seen e req nav mode address asks;
+        accepted = accepted_here e req nav mode address asks;
         place = place;
-        placed = placed;
+        placed = read_there e [] t pass.work (λ (x : Seen). place_of x nav ≡ Some place) placed;
         is_awake = rw wakes (nat_eq_refl doc.0);
-        stand = ap (λ (n : NavId). stands s (aim_of s) n) named ∙ stand;
+        stand =
+            ap (λ (k : ℕ). stands (log_of e []) k place.nav) (aim_there e [] t pass.work)
+            ∙ read_there e [] t pass.work (λ (x : Seen). stands x (aim_of x) place.nav ≡ true) (ap (λ (n : NavId). stands s (aim_of s) n) named ∙ stand);
         row = row.0;
-        given = row.1;
+        given = read_there e [] t pass.work (λ (x : Seen). given_row x place ≡ Some (row.0)) row.1;
         is_fragment = row.2;
       })
 
-  due : IsFragmentDue (here_of e []) order home.document req nav mode address (q e req nav mode address asks)
-  due =
-      subst (λ (h : Here). IsFragmentDue h order home.document req nav mode address (q e req nav mode address asks)) asks.aside.begins due_seen
-
   is_numbered : IsNumbered (log_of e []) order
   is_numbered =
-      subst (λ (x : Seen). IsNumbered x order) (sym asks.aside.plain) (numbered s order.proc doc (whys.Req req) (tasks.DoFragment req mode address) (pass.going.tab.asked.died order.proc).0)
+      numbered_log e [] (read_off e []) order (numbered s order.proc doc (whys.Req req) (tasks.DoFragment req mode address) (pass.going.tab.asked.died order.proc).0)
 
   pub may_send : MaySend None e [] order
   may_send later both =
-      fragment_may (here_of e []) e.event e.actor order home.document req nav mode address (q e req nav mode address asks) (led_here e [] pass.work.own) is_numbered due later tt
+      fragment_may (here_of e []) e.event e.actor order its.d req nav mode address (q e req nav mode address asks) (led_here e [] pass.work.own) is_numbered due later tt
 
   pub there : IsThere s doc
   there = record { document = home.document; found = home.found; alive = alive; known = (pass.going.tab.asked.died home.document.proc).0 }

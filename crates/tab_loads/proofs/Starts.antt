@@ -1,9 +1,6 @@
 -- A load begins, in the place of its navigable's ongoing one: what its door asks.
-use Rattle.tab_doors.proofs.Works.{plain_now}
 use Rattle.seen_facts.specs.Load.Loading.{look}
 use Rattle.log_model.specs.Once.{has_no_earlier_load, loads}
-use Rattle.seen_facts.proofs.Each.Runs.{at_place}
-use Rattle.row_facts.proofs.LoadRows.Earlier.{all_from}
 use Rattle.seen_facts.proofs.Hang.Members.{find_has}
 use Rattle.load_doors.specs.Loading.{IsGiven, IsToBegin, is_beginning}
 use Rattle.row_facts.specs.LoadRows.Beginning.{IsLoadToBegin, is_out_of_way, is_to_fragment}
@@ -18,8 +15,10 @@ use Rattle.log_model.specs.Points.{is_accepted_here}
 use Rattle.log_model.specs.Seen.{Asked, Document, Place, Seen, document_of, place_in, place_of, request_of}
 use Rattle.log_model.specs.declared.row_kind.RowKind.{RowKind}
 use Rattle.seen_facts.proofs.Rest.Still.{found_itself}
-use Rattle.seen_laws.specs.Blocks.{Here, point_at}
+use Rattle.seen_laws.specs.Blocks.{point_at}
 use Rattle.seen_laws.specs.InEvent.{InEvent, here_of, now_of, log_of}
+use Rattle.log_model.specs.Orders.{Question, due_questions}
+use Rattle.log_model.specs.declared.outcome.Cause.TheVariants as drops
 use Rattle.std.proofs.Common.{Bool, List, None, Option, Some, [], ap, arith, false, inl, inr, length, not, refl, subst, sym, true, ℕ, ◌+◌, ◌<◌, ◌==◌, ◌||◌, ◌∙◌, ◌≡◌, ◌≤◌, ◌⊎◌, ◌&&◌, ◌++◌}
 use Rattle.std.proofs.lemmas.Bool.Decides.{nat_tests}
 use Rattle.std.proofs.lemmas.Bool.{and_parts}
@@ -39,15 +38,27 @@ use Rattle.tab_ids.specs.declared.StateId.{StateId}
 use Rattle.tab_loads.proofs.Comes.{all, pass, place, placed, target}
 use Rattle.tab_loads.proofs.Firsts.{q}
 use Rattle.tab_loads.proofs.Givens.{is_given, sent_none}
+use Rattle.tab_loads.proofs.Reals.{IsThereAs, apart_dropped, asks_dropped, read_there, there_as, way_there}
+use Rattle.unasked_dues.proofs.Ends.{earlier_same}
+use Rattle.unasked_dues.specs.Checking.{NoneChecksBefore}
+use Rattle.row_facts.proofs.LoadRows.Earlier.{all_from}
+use Rattle.seen_facts.proofs.Each.Runs.{at_place}
 use Rattle.tab_loads.proofs.Gives.{IsMadeWay, made_way}
-use Rattle.tab_loads.specs.Asking.{InLoad, IsAsked}
+use Rattle.tab_loads.specs.Asking.{BeginsAnew, InLoad, IsAsked}
 use Rattle.tab_loads.specs.Giving.{HasDropped, HasMadeWay, HasNone}
-use Rattle.tab_loads.specs.Telling.{away_in, fragment_in}
-use Rattle.tab_turns.proofs.Firsts.{none_asked}
+use Rattle.tab_loads.specs.Telling.{away_in}
 use Rattle.log_model.specs.declared.job.Why.TheVariants as whys
 use Rattle.log_model.specs.declared.request.Request.TheVariants as requests
 
-module _ (l : InLoad) (t : Tables) (asked : IsAsked l t) (placed_ : away_in t l.nav ≡ None) (anew_ : fragment_in t l.nav l.address ≡ None) (noted : List (StateId × ReqId)) (v : Tables) (out : List RowKind) (way : HasMadeWay l.event l.req l.nav t v out l.noted noted) where
+-- ---- numbers
+
+past : (a n : ℕ) → a ≤ n → (a == (n + 1)) ≡ false
+past a n few = grind (arith, nat_tests, few)
+
+next_more : (a b : ℕ) → b ≡ a + 1 → nat_lt a b ≡ true
+next_more a b number = grind (arith, nat_tests, number)
+
+module _ (l : InLoad) (t : Tables) (asked : IsAsked l t) (placed_ : away_in t l.nav ≡ None) (anew_ : BeginsAnew l t) (noted : List (StateId × ReqId)) (v : Tables) (out : List RowKind) (way : HasMadeWay l.event l.req l.nav t v out l.noted noted) where
   abbrev pub e : InEvent
   e = l.event
 
@@ -108,7 +119,7 @@ module _ (l : InLoad) (t : Tables) (asked : IsAsked l t) (placed_ : away_in t l.
 
   pub anew_there : is_to_fragment s l.address own_place ≡ false
   anew_there =
-      sent_none s t.running t (pass l t asked).work.holds (pass l t asked).going.tab.sound l.nav (place l t asked) (placed l t asked) (aim_of s) (target l t asked placed_) l.address anew_
+      sent_none s t.running t (pass l t asked).work.holds (pass l t asked).going.tab.sound l.nav (place l t asked) (placed l t asked) (aim_of s) (target l t asked placed_) l.address anew_.fragment
 
   pub anew : is_to_fragment n l.address own_place ≡ false
   anew = ap (λ (h : History). fragment_at h own_place) made.history ∙ anew_there
@@ -122,7 +133,7 @@ module _ (l : InLoad) (t : Tables) (asked : IsAsked l t) (placed_ : away_in t l.
   low doc d found = made.going.tab.loading.documents doc d found
 
   pub no_document : (doc : DocId) (d : Document) → document_of n doc ≡ Some d → (d.state.0 == (n.states + 1)) ≡ false
-  no_document doc d found = let few = low doc d found in grind (arith, nat_tests, few)
+  no_document doc d found = past (d.state.0) n.states (low doc d found)
 
   pub unmade : made_for n.documents state ≡ None
   unmade = none_made n.documents state never
@@ -146,35 +157,40 @@ module _ (l : InLoad) (t : Tables) (asked : IsAsked l t) (placed_ : away_in t l.
   pub accepted : is_accepted_here (point_at (here_of l.event out) []) l.req ≡ true
   accepted =
       ap (λ (x : Seen). nat_lt (length x.requests) l.req.0) (start_here l.event out)
-      ∙ (let number = asked.asks.next in let more : nat_lt (length l.event.start.requests) l.req.0 ≡ true = grind (arith, nat_tests, number) in more)
+      ∙ next_more (length l.event.start.requests) l.req.0 asked.asks.next
 
-  -- where the event stands, and the log as it would be had nobody been asked
-  abbrev here_seen : Here
-  here_seen = record (here_of l.event out) { now = n }
+  -- the load as the log has it
+  pub as_there : IsThereAs l.event.checking (log_of l.event out) l.req own
+  as_there =
+      there_as l.event.checking (log_of l.event out) l.req own (read_there l.event out v way.work (λ (x : Seen). request_of x l.req ≡ Some own) made.found) refl asked.asks.outside
 
-  due_seen : IsLoadToBegin here_seen l.req l.nav l.mode l.address own
-  due_seen =
-      record {
-        at = made.found;
-        number = refl;
-        what = refl;
-        open_ = refl;
-        unstarted = refl;
-        accepted = accepted;
-        placed = way_placed;
-        place = own_place;
-        there = there;
-        anew = anew;
-        unasked = none_asked (now_of l.event out) made.going.tab.docs (requests.Load l.nav l.mode l.address) None;
-      }
+  -- whom it asks
+  abbrev pub asks_at : List RowKind → List Question
+  asks_at o = due_questions (log_of l.event o) (requests.Load l.nav l.mode l.address) None
 
-  -- nobody was asked so far
-  plain : log_of l.event out ≡ n
-  plain = plain_now l.event out way.work.goes asked.asks.aside.plain
+  asks_same : asks_at out ≡ asks_at []
+  asks_same = by_way way.which
+    where
+      by_way : HasNone l.nav t v out l.noted noted ⊎ HasDropped l.req l.nav t v out l.noted noted → asks_at out ≡ asks_at []
+      by_way (inl it) = ap asks_at it.out_is
+      by_way (inr it) =
+          ap asks_at it.out_is ∙ asks_dropped l.event it.old.req (drops.By l.req) (requests.Load l.nav l.mode l.address)
 
-  pub due : IsLoadToBegin (here_of l.event out) l.req l.nav l.mode l.address own
+  pub due : IsLoadToBegin (here_of l.event out) l.req l.nav l.mode l.address as_there.q
   due =
-      subst (λ (h : Here). IsLoadToBegin h l.req l.nav l.mode l.address own) (ap (λ (x : Seen). let h : Here = record (here_of l.event out) { now = x } in h) (sym plain)) due_seen
+      record {
+        at = as_there.at;
+        number = ap (λ (x : Asked). x.nr) (sym as_there.is);
+        what = ap (λ (x : Asked). x.what) (sym as_there.is);
+        open_ = ap (λ (x : Asked). x.ending) (sym as_there.is);
+        unstarted = ap (λ (x : Asked). x.is_started) (sym as_there.is);
+        accepted = accepted;
+        placed = way_there l.event out v way.work l.nav way_placed;
+        place = own_place;
+        there = read_there l.event out v way.work (λ (x : Seen). place_of x l.nav ≡ Some own_place) there;
+        anew = read_there l.event out v way.work (λ (x : Seen). is_to_fragment x l.address own_place ≡ false) anew;
+        unasked = asks_same ∙ anew_.nobody;
+      }
 
   -- no earlier load is ongoing
   pub alone_now : has_no_earlier_load n l.req l.nav ≡ true
@@ -196,20 +212,32 @@ module _ (l : InLoad) (t : Tables) (asked : IsAsked l t) (placed_ : away_in t l.
           by_tests false false true on its = refl
           by_tests false false false on its = refl
 
-  -- nor in the log
+  -- nor is one in its check
+  apart_then : NoneChecksBefore l.event.checking (log_of l.event out) l.req l.nav
+  apart_then = by_way way.which
+    where
+      by_way : HasNone l.nav t v out l.noted noted ⊎ HasDropped l.req l.nav t v out l.noted noted → NoneChecksBefore l.event.checking (log_of l.event out) l.req l.nav
+      by_way (inl it) = subst (λ (o : List RowKind). NoneChecksBefore l.event.checking (log_of l.event o) l.req l.nav) (sym it.out_is) asked.asks.apart
+      by_way (inr it) =
+          subst (λ (o : List RowKind). NoneChecksBefore l.event.checking (log_of l.event o) l.req l.nav) (sym it.out_is) (apart_dropped l.event l.req l.nav asked.asks.apart it.old.req (drops.By l.req))
+
+  -- so none is in the log
   sole : has_no_earlier_load (log_of l.event out) l.req l.nav ≡ true
-  sole = subst (λ (x : Seen). has_no_earlier_load x l.req l.nav ≡ true) (sym plain) alone_now
+  sole =
+      sym (earlier_same l.event.checking (log_of l.event out) way.work.checks.numbered l.req l.nav apart_then)
+      ∙ read_there l.event out v way.work (λ (x : Seen). has_no_earlier_load x l.req l.nav ≡ true) alone_now
 
   -- no request has begun in this event
   none_began : list_any is_beginning (l.event.before ++ out) ≡ false
-  none_began = ap (λ (x : List RowKind). list_any is_beginning (x ++ out)) asked.asks.aside.uncut ∙ by_way way.which
+  none_began = ap (λ (x : List RowKind). list_any is_beginning (x ++ out)) asked.asks.uncut ∙ by_way way.which
     where
       by_way : HasNone l.nav t v out l.noted noted ⊎ HasDropped l.req l.nav t v out l.noted noted → list_any is_beginning out ≡ false
       by_way (inl it) = ap (λ (x : List RowKind). list_any is_beginning x) it.out_is
       by_way (inr it) = ap (λ (x : List RowKind). list_any is_beginning x) it.out_is
 
   pub to_begin : (replace : Bool) → replace ≡ load_replaces n (requests.Load l.nav l.mode l.address) → IsToBegin l.event out v.loads l.req l.nav replace l.address
-  to_begin replace is = record { q = own; mode = l.mode; due = due; none_ = none_there; sole = sole; first = none_began; handling = is; unmade = unmade }
+  to_begin replace is =
+      record { q = as_there.q; mode = l.mode; due = due; none_ = none_there; sole = sole; first = none_began; handling = is; unmade = unmade }
 
   pub states_room : v.states + 1 < 4294967296
   states_room =

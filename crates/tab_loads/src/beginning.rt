@@ -1,6 +1,9 @@
 //! A load begins, in the place of its navigable's ongoing one.
 ghost use Rattle.std.specs.Prelude.{◌≡◌, [], OnOk, None, option_map};
 ghost use Rattle.load_table.specs.Loads.{ongoing_load};
+ghost use Rattle.log_model.specs.Orders.{due_questions};
+ghost use Rattle.log_model.specs.declared.request.Request.TheVariants as requests;
+ghost use Rattle.seen_laws.specs.InEvent.{log_of};
 ghost use Rattle.tab_loads.specs.Asking.{HasCome, InLoad, IsAsked};
 ghost use Rattle.tab_loads.specs.Giving.{HasMadeWay};
 ghost use Rattle.tab_loads.specs.Telling.{away_in, fragment_in};
@@ -52,7 +55,7 @@ fn give_way(
     Ok(())
 }
 
-/// The load begins, the navigable's ongoing one gives way to it, and its document is to be made, in the process of its site. HTML Standard, "navigate" and "attempt to populate the history entry's document".
+/// The load, which asks nobody, begins, the navigable's ongoing one gives way to it, and its document is to be made, in the process of its site. HTML Standard, "navigate" and "attempt to populate the history entry's document".
 pub(crate) fn begin(
     header: &Header,
     tables: &mut Tables,
@@ -74,6 +77,7 @@ pub(crate) fn begin(
     requires address { l.address ≡ address.now }
     requires placed { away_in tables.old l.nav ≡ None }
     requires anew { fragment_in tables.old l.nav l.address ≡ None }
+    requires unasked { due_questions (log_of l.event []) (requests.Load l.nav l.mode l.address) None ≡ [] }
     ensures come { OnOk result (HasCome l tables.old tables.new out.new blame.new.entries Begun) }
 {
     give_way(tables, blame, out, req, nav)?;

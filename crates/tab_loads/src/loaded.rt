@@ -9,6 +9,8 @@ pub enum Loaded {
     CutOff,
     /// Its navigable's document was sent to a fragment.
     ToFragment,
+    /// It is to begin, and asks somebody before: a document that it leaves has an unload handler. Nothing was done for it yet.
+    Asks,
     /// It has begun, and its document is to be made.
     Begun,
 }

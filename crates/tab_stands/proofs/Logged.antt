@@ -1,5 +1,5 @@
--- An event in which nobody was asked: what is known of the log once its own row was logged.
-use Rattle.tab_doors.proofs.Uncut.{uncut_pass, uncut_now}
+-- What is known of the log once an event's own row was logged, and what lasts of it.
+use Rattle.tab_doors.proofs.Uncut.{uncut_now}
 use Rattle.asking_facts.proofs.Passed.{known_on}
 use Rattle.asking_facts.specs.Asking.{AsksBegun}
 use Rattle.asking_facts.specs.Known.{AskingKnown}
@@ -9,39 +9,26 @@ use Rattle.checking_facts.proofs.Rows.{row_checks}
 use Rattle.checking_facts.specs.Checks.{AreInCheck, GoesDuly}
 use Rattle.checking_facts.specs.States.{LeavesStates}
 use Rattle.leave_facts.proofs.Carried.{row_duly}
-use Rattle.log_model.specs.Checks.{is_settled_by}
-use Rattle.log_model.specs.Equal.{holds}
-use Rattle.log_model.specs.Places.{all_asked, has_passed}
-use Rattle.log_model.specs.Queue.{is_delivered_duly}
-use Rattle.log_model.specs.Seen.{Asked, Seen, desk_of, request_of}
-use Rattle.log_model.specs.declared.made.Report.{Report}
+use Rattle.log_model.specs.Seen.{Seen, desk_of}
 use Rattle.log_model.specs.declared.outcome.Denial.{Denial}
 use Rattle.log_model.specs.declared.request.Request.{Request}
-use Rattle.log_model.specs.declared.row_kind.Actor.{Actor}
-use Rattle.log_model.specs.declared.row_kind.Actor.TheVariants as actors
-use Rattle.log_model.specs.declared.row_kind.LogRow.{LogRow}
 use Rattle.log_model.specs.declared.row_kind.RowKind.{RowKind}
 use Rattle.log_model.specs.declared.row_kind.RowKind.TheVariants as rows
-use Rattle.seen_facts.proofs.Asked.Passed.{asked_all}
 use Rattle.seen_facts.proofs.Desk.Stays.{NoDeath}
-use Rattle.seen_facts.proofs.Rest.Stands.{all_requests}
-use Rattle.seen_facts.specs.Asked.Asking.{HavePassed}
-use Rattle.seen_laws.proofs.Deliveries.{delivered_may, delivered_row}
-use Rattle.seen_laws.proofs.InEvents.{log_more, now_is, uncut_log}
-use Rattle.seen_laws.specs.Blocks.{EachPass, Here, point_at}
-use Rattle.seen_laws.specs.InEvent.{AreLegal, InEvent, log_of, row_of, start_of, IsTakenIn}
+use Rattle.seen_laws.proofs.InEvents.{log_more, uncut_log}
+use Rattle.seen_laws.specs.Blocks.{Here}
+use Rattle.seen_laws.specs.InEvent.{AreLegal, InEvent, log_of, row_of}
 use Rattle.seen_laws.specs.Sending.{leads}
-use Rattle.std.proofs.Common.{Bool, List, None, Option, Some, [], ap, false, length, not, refl, subst, sym, true, ◌&&◌, ◌+◌, ◌∙◌, ◌∷◌, ◌≡◌, map, ◌++◌}
-use Rattle.std.specs.List.{list_all}
+use Rattle.std.proofs.Common.{Bool, List, None, Option, [], ap, false, length, subst, sym, true, ◌+◌, ◌∙◌, ◌∷◌, ◌≡◌}
 use Rattle.std.specs.Prelude.{slice_get}
 use Rattle.tab_ids.specs.declared.DocId.{DocId}
 use Rattle.tab_ids.specs.declared.ProcId.{ProcId}
 use Rattle.tab_ids.specs.declared.StateId.{StateId}
 use Rattle.tab_stands.proofs.DulyEvents.{own_duly}
 use Rattle.tab_stands.proofs.EpochRows.{own_under, refused_under}
-use Rattle.tab_doors.proofs.PassedOn.{AreNumbered, lawful_pass, nobody_duly, plain_nobody}
-use Rattle.tab_doors.proofs.Works.{none_steps, start_here, steps_calm}
-use Rattle.tab_doors.specs.PassedOn.{NobodyAsked, NoneChecked, noted_by}
+use Rattle.tab_doors.proofs.PassedOn.{lawful_pass}
+use Rattle.tab_doors.proofs.Works.{start_here}
+use Rattle.tab_doors.specs.PassedOn.{noted_by}
 use Rattle.tab_doors.specs.Working.{IsAhead}
 use Rattle.load_doors.specs.Logged.{IsLogged, IsOwnRead}
 use Rattle.log_model.specs.After.{after}
@@ -61,31 +48,14 @@ module _ (e : InEvent) (aside : StartsUnasked e) where
   pub start_plain : unasked e.checking e.start ≡ e.start
   start_plain = ap (λ (h : Here). h.start) aside.begins ∙ start_here e []
 
-  -- so nobody was
-  pub start_nobody : NobodyAsked e.start
-  start_nobody = plain_nobody e.checking e.start start_plain
-
   -- and its own row is read off
   pub own_read : IsOwnRead e
   own_read = sym (uncut_now e aside.uncut aside.plain) ∙ ap (λ (s : Seen). after s (row_of e e.own)) (sym start_plain)
 
-  module _ (checks : List (ReqId × OpenCheck)) (none : NoneChecked checks) (numbered : AreNumbered e.start) (checking : AreInCheck e.checking (log_of e [])) where
-    pub unasked_logged : IsLogged e checks
-    unasked_logged =
-        record {
-          uncut = aside.uncut;
-          undue = aside.undue;
-          read = own_read;
-          numbered = numbered;
-          checking = checking;
-          calm = steps_calm e.checking (log_of e []) (none_steps e.checking aside.unchecked (log_of e []));
-          asked = nobody_duly e.checking e.start (log_of e []) checks start_nobody (plain_nobody e.checking (log_of e []) (sym (aside.plain ∙ now_is e []))) checking.numbered checking.others aside.unchecked none;
-        }
-
-  -- and where the own row may be logged by itself
-  pub with_lawful : (checks : List (ReqId × OpenCheck)) → IsLogged e checks → LastsInLog e.checking (log_of e []) → AreLegal e [] → HasLogged e checks
-  with_lawful checks logged lasts legal =
-      record { logged = logged; lasts = lasts; lawful = lawful_pass (IsAhead None) e (noted_by checks []) [] (lawful_legal e [] legal) }
+-- where the own row may be logged by itself
+pub with_lawful : (e : InEvent) (checks : List (ReqId × OpenCheck)) → IsLogged e checks → LastsInLog e.checking (log_of e []) → AreLegal e [] → HasLogged e checks
+with_lawful e checks logged lasts legal =
+    record { logged = logged; lasts = lasts; lawful = lawful_pass (IsAhead None) e (noted_by checks []) [] (lawful_legal e [] legal) }
 
 -- ---- what lasts of the log, over an event's own row
 
@@ -154,28 +124,3 @@ refused_lasts e req reason lasts =
       duly = row_duly (log_of e []) e.event e.actor lasts.duly (rows.Refused req reason) tt;
       known = known_on (log_of e []) (row_of e (rows.Refused req reason)) tt tt tt tt lasts.known;
     })
-
--- ---- the own row may be logged
-
--- a report is taken, where each request has passed its check
-pub delivered_legal : (e : InEvent) (proc : ProcId) (report : Report) → e.before ≡ [] → e.actor ≡ actors.Coord → e.own ≡ rows.Delivered proc → slice_get (desk_of e.start proc).reports 0 ≡ Some report → HavePassed e.start → AreLegal e []
-unfolding AreLegal
-delivered_legal e proc report uncut by_coord own first passed later rest =
-    uncut_pass e [] later uncut (subst (λ (r : LogRow). EachPass (start_of e) (r ∷ []) later) (sym its_row)
-    (delivered_may (start_of e) e.event proc report refl first none_settled later (subst (λ (r : LogRow). is_delivered_duly (point_at (start_of e) later) r ≡ true) its_row taken)))
-  where
-    taken : IsTakenIn e later
-    taken = subst (λ (l : List RowKind). IsTakenIn e ((map (row_of e) l ++ []) ++ later)) uncut rest.taken
-
-    its_row : row_of e e.own ≡ delivered_row e.event proc
-    its_row =
-        ap (λ (a : Actor). let r : LogRow = record { event = e.event; actor = a; row = e.own } in r) by_coord
-        ∙ ap (λ (k : RowKind). let r : LogRow = record { event = e.event; actor = actors.Coord; row = k } in r) own
-
-    none_settled : list_all (λ (q : Asked). not (is_settled_by e.start (after e.start (delivered_row e.event proc)) q)) e.start.requests ≡ true
-    none_settled = all_requests e.start.requests (λ (q : Asked). not (is_settled_by e.start (after e.start (delivered_row e.event proc)) q)) (λ req q at. settled_not q (passed req q at))
-      where
-        settled_not : (q : Asked) → has_passed e.start q ≡ true → not (is_settled_by e.start (after e.start (delivered_row e.event proc)) q) ≡ true
-        settled_not q is =
-            let settled : all_asked e.start q ≡ true = asked_all e.start q is in
-            ap (λ (b : Bool). not (not b && holds (all_asked (after e.start (delivered_row e.event proc))) (request_of (after e.start (delivered_row e.event proc)) q.nr))) settled
