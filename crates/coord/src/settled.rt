@@ -41,7 +41,6 @@ impl Coordinator {
             out,
             &mut reasons,
             false,
-            false,
         )?;
         self.logged = reasons.logged;
         Ok(())

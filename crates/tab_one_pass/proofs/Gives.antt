@@ -1,4 +1,5 @@
 -- Ongoing loads give way to the traversal that runs; then stray documents are discarded, and loads of navigables without an entry dropped.
+use Rattle.seen_facts.specs.Hang.Members.{Has}
 use Rattle.apply_plan.specs.Order.{made_in}
 use Rattle.tab_facts.specs.Calm.Calm.{KeepsCalm}
 use Rattle.tab_facts.specs.FrameWhole.Tab.{AreAwakeWithRows}
@@ -15,7 +16,7 @@ use Rattle.std.specs.Prelude.{is_some}
 use Rattle.tab_doors.specs.Working.{KeepsStore}
 use Rattle.tab_doors.specs.declared.tables.Tables.{Tables}
 use Rattle.tab_drops.proofs.ForCallers.{tab_placed}
-use Rattle.tab_drops.specs.Dropping.{ArePlaced, AreUnheld, EndsLoads, HasOnlyDestroyed, HasOnlyDroppedBy, IsBare, IsUnsettled, LeavesAll, StandOrBare, StandOrMove}
+use Rattle.tab_drops.specs.Dropping.{ArePlaced, AreUnheld, EndsLoads, HasOnlyDestroyed, HasOnlyDroppedBy, IsBare, IsUnsettled, LeavesAll, StandOrBare, StandOrMove, Drop}
 use Rattle.tab_ids.specs.declared.ReqId.{ReqId}
 use Rattle.tab_ids.specs.declared.StateId.{StateId}
 use Rattle.tab_one_pass.proofs.Calms.{swept_calm, swept_up}
@@ -25,7 +26,7 @@ use Rattle.tab_one_pass.proofs.Orphans.{stray_sent}
 use Rattle.tab_one_pass.proofs.Passes.{left_drops, left_then, loaded_before, swept_left}
 use Rattle.tab_one_pass.proofs.Stands.{rows_swept, stand_swept}
 use Rattle.tab_one_pass.specs.Noting.{AreNoted}
-use Rattle.tab_one_pass.specs.Passing.{AreLeftStrays, HasClearedOut, HasGivenWay, IsOpen, LeavesPass, MayStand, SendsForStrays, WereLoaded}
+use Rattle.tab_one_pass.specs.Passing.{AreLeftStrays, HasClearedOut, HasGivenWay, IsOpen, LeavesPass, MayStand, SendsForStrays, WereLoaded, IsBareLoad}
 pub use Rattle.tab_one_pass.proofs.Opens.{still_left, still_on}
 pub use Rattle.tab_serves.proofs.Leavers.{load_leaver, run_leaver, run_leavers}
 pub use Rattle.tab_serves.proofs.PassedOn.{show_causes}
@@ -153,7 +154,16 @@ module _ (p : InPass) (out : List RowKind) (t : Tables) (pass : IsPassing p out 
       cleared_left = left_then s y x (swept_left p.event out mid orders turn mid_calm mid_up) (left_drops y x left)
 
       pub cleared_only : HasOnlyDestroyed y mid new → HasClearedOut p.event blame out new
-      cleared_only destroys = record { swept = mid; sweeps = only; destroys = destroys }
+      cleared_only destroys = record { swept = mid; sweeps = only; none = swept; destroys = destroys; bare = bare_before }
+        where
+          bare_before : (d : Drop) → Has destroys.drops d → IsBareLoad (now_of p.event out) d.req
+          bare_before d has =
+              let its = destroys.each d has in
+              record {
+                nav = its.nav;
+                load = record { look = its.load.look; at = sym (turn.looks d.req) ∙ its.load.at; ongoing = its.load.ongoing; loads_it = its.load.loads_it };
+                bare = ap (λ (h : History). has_row its.nav h.rows) (sym turn.history) ∙ its.bare;
+              }
 
       pub cleared_sent : HasOnlyDestroyed y mid new → SendsForStrays s x out new
       cleared_sent destroys awake_ =

@@ -13,3 +13,4 @@ pub mod Resumes
 pub mod Wholes
 pub mod PassedOn
 pub mod Lives
+pub mod Quiets

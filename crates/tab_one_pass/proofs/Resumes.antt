@@ -23,7 +23,7 @@ use Rattle.tab_one_pass.specs.Passing.{HasClearedOut, HasGivenWay, HasPutOut, Ma
 use Rattle.tab_passes.proofs.Onlies.{only_none}
 use Rattle.tab_passes.proofs.Sweeps.{swept_off}
 use Rattle.tab_passes.specs.Passing.{InPass, IsPassing, IsPassingIn}
-use Rattle.tab_serves.specs.Serving.{IsServeFor}
+use Rattle.tab_serves.specs.Serving.{DiscardsNone, IsServeFor}
 use Rattle.tab_passes.specs.Telling.{IsUpdateFor}
 
 -- a list of no length has nothing
@@ -119,5 +119,6 @@ module _ (p : InPass) (given : List RowKind) (m : Tables) (pass : IsPassing p gi
         clears = clears;
         served = cleared;
         serves = only_none (IsServeFor run cause) cleared;
+        quiet = λ held. only_none DiscardsNone cleared;
         told = only_none (IsUpdateFor tells) cleared;
       }

@@ -19,7 +19,7 @@ use Rattle.tab_one_pass.proofs.Passes.{any_orders, left_then, loaded_before, may
 use Rattle.tab_one_pass.proofs.Sents.{strays_over}
 use Rattle.tab_one_pass.specs.Passing.{AreLeftStrays, HasClearedOut, HasGivenWay, HasPassed, HasPutOut, IsOpen, LeavesPass, SendsForStrays, WereLoaded}
 use Rattle.tab_serves.proofs.Orders.{walk_orders}
-use Rattle.tab_serves.specs.Serving.{FreesVisited, HasOnlyServed, HasWalked, InPass, IsPassing, LeavesLog, MayWalk}
+use Rattle.tab_serves.specs.Serving.{DiscardsUnheld, FreesVisited, HasOnlyServed, HasWalked, InPass, IsPassing, LeavesLog, MayWalk}
 use Rattle.tab_serves.specs.PassedOn.{HasOnlyTold, IsToldMore}
 use Rattle.seen_facts.specs.Walk.Serving.{AreServed, IsServed}
 
@@ -84,8 +84,8 @@ module _ (p : InPass) (cause tells : Why) (t m : Tables) (was given cleared : Li
       whole_left first then_ =
           left_then s (now_of p.event given) (now_of p.event out) first (left_then (now_of p.event given) mid (now_of p.event out) then_ (left_then mid (now_of p.event served) (now_of p.event out) (walked_left p.event u.running cause cleared served serves log) (told_left p.event w.running tells served out only more asked)))
 
-      pub whole_only : HasGivenWay s t.running was given → HasClearedOut p.event given_blame given cleared → HasPutOut p.event t.running cause tells was out
-      whole_only gives clears =
+      pub whole_only : HasGivenWay s t.running was given → HasClearedOut p.event given_blame given cleared → DiscardsUnheld p.event cleared served → HasPutOut p.event t.running cause tells was out
+      whole_only gives clears quiet =
           record {
             given = given;
             gives = gives;
@@ -94,5 +94,6 @@ module _ (p : InPass) (cause tells : Why) (t m : Tables) (was given cleared : Li
             clears = clears;
             served = served;
             serves = subst (λ (r : Option ReqId). HasOnlyServed r cause cleared served) running serves;
+            quiet = quiet;
             told = only;
           }

@@ -1,5 +1,7 @@
 -- What one pass over a tab with loads asks of the log, what it puts out, and what it leaves, so that another one may follow.
 -- HTML Standard, "apply the history step" and "destroy a document"; that all this goes by passes is this project's own.
+use Rattle.seen_facts.specs.Hang.Members.{Has}
+use Rattle.tab_drops.specs.Dropping.{Drop}
 use Rattle.tab_facts.specs.Calm.Calm.{AreRooted, CalmUnless, HasUsable, IsCalm, IsCalmAround, IsCalmYet, KeepsCalm, UnmovedAreHere}
 use Rattle.tab_facts.specs.Calm.Loads.{LoadsHaveDocuments}
 use Rattle.tab_facts.specs.FrameWhole.Tab.{AreAwakeWithRows}
@@ -28,9 +30,9 @@ use Rattle.tab_ids.specs.declared.StateId.{StateId}
 use Rattle.tab_passes.specs.Passing.{InPass, IsPassingIn}
 use Rattle.tab_serves.specs.Serving.{FreesVisited, HasOnlyServed, HasWalked, IsSince, KeepsUp}
 pub use Rattle.tab_serves.specs.PassedOn.{MayServe}
-pub use Rattle.tab_serves.specs.Serving.{LeavesVisited, StillAwake, MayCause, ParentsShown, show_why}
+pub use Rattle.tab_serves.specs.Serving.{DiscardsNone, DiscardsUnheld, LeavesVisited, StillAwake, MayCause, ParentsShown, show_why}
 use Rattle.tab_serves.specs.PassedOn.{HasOnlyTold}
-pub use Rattle.tab_sweeps.specs.Sweeping.{HasOnlySwept, IsStray}
+pub use Rattle.tab_sweeps.specs.Sweeping.{HasOnlySwept, IsStray, NoneStray}
 use Rattle.row_facts.specs.WalkRows.Since.{AwakeSince, MovesVisited, WasAwake}
 use Rattle.log_model.specs.declared.row_kind.RowKind.TheVariants as rows
 
@@ -117,13 +119,21 @@ abbrev pub HasGivenWay : Seen → Option ReqId → List RowKind → List RowKind
 HasGivenWay s None was out = out ≡ was
 HasGivenWay s (Some by) was out = HasOnlyDroppedBy s by (IsUnsettled s) was out
 
--- stray documents were discarded, each for the request that was noted for its state, then loads of navigables without an entry dropped
+-- the request is an ongoing load of a navigable without an entry
+pub record IsBareLoad (s : Seen) (req : ReqId) : Type 0 where
+  pub nav : NavId
+  pub load : IsLoadOf s req nav
+  pub bare : IsBare s nav
+
+-- stray documents were discarded, each for the request that was noted for its state, until none was left, then loads of navigables without an entry dropped, which had none before
 pub record HasClearedOut (e : InEvent) (blame : List (StateId × ReqId)) (was out : List RowKind) : Type 0 where
   pub swept : List RowKind
   pub sweeps : HasOnlySwept (now_of e was) blame was swept
+  pub none : NoneStray (now_of e swept)
   pub destroys : HasOnlyDestroyed (now_of e swept) swept out
+  pub bare : (d : Drop) → Has destroys.drops d → IsBareLoad (now_of e was) d.req
 
--- all of it, in this order; then come the orders of the walk, and last those that tell length and index
+-- all of it, in this order; then come the orders of the walk, which discard nothing where a step was in its check as the event began or was cut, and last those that tell length and index
 pub record HasPutOut (e : InEvent) (run : Option ReqId) (cause tells : Why) (was out : List RowKind) : Type 0 where
   pub given : List RowKind
   pub gives : HasGivenWay (now_of e was) run was given
@@ -132,6 +142,7 @@ pub record HasPutOut (e : InEvent) (run : Option ReqId) (cause tells : Why) (was
   pub clears : HasClearedOut e blame given cleared
   pub served : List RowKind
   pub serves : HasOnlyServed run cause cleared served
+  pub quiet : DiscardsUnheld e cleared served
   pub told : HasOnlyTold tells served out
 
 -- ---- what it leaves
@@ -171,7 +182,14 @@ pub record LeavesCalm (run : Option ReqId) (s t : Seen) : Type 0 where
 abbrev pub MayGoOn : Bool → Bool → List RowKind → ℕ → Type 0
 MayGoOn asks runs out before = (asks ≡ false) ⊎ ((runs ≡ true) ⊎ (length out ≡ before))
 
--- no traversal runs and the walk waits, since documents may have been discarded that were asked: what goes on until it, and all that was put out, which is something
+-- the last of the rows discards nothing
+pub record EndsRun (out : List RowKind) : Type 0 where
+  pub before : List RowKind
+  pub last : RowKind
+  pub is : out ≡ before ++ last ∷ []
+  pub none : DiscardsNone last
+
+-- no traversal runs and the walk waits, since documents may have been discarded that were asked: what goes on until it, and all that was put out, which is something; its last row discards nothing, or no document is stray any more; and where ongoing loads stood before, a document was stray then, and none is any more
 pub record HasPaused (p : InPass) (cause tells : Why) (t : Tables) (was out : List RowKind) (u : Tables) (blame : List (StateId × ReqId)) : Type 0 where
   pub idle : t.running ≡ None
   pub passing : IsPassingIn true p out u
@@ -183,4 +201,6 @@ pub record HasPaused (p : InPass) (cause tells : Why) (t : Tables) (was out : Li
   pub left : LeavesPass (now_of p.event was) (now_of p.event out)
   pub only : HasPutOut p.event t.running cause tells was out
   pub grown : length was < length out
+  pub ends : EndsRun out ⊎ NoneStray (now_of p.event out)
+  pub rests : LoadsStand (now_of p.event was) → (NoneStray (now_of p.event was) → ⊥) × NoneStray (now_of p.event out)
   pub kept : KeepsStore t u

@@ -27,8 +27,8 @@ use Rattle.seen_facts.proofs.Hang.Hung.{places_distinct}
 use Rattle.tab_serves.proofs.Stills.{off_first}
 use Rattle.tab_serves.proofs.Ups.{up_places, up_then}
 use Rattle.tab_walk.specs.Cutting.{InPass, show_why}
-use Rattle.tab_serves.specs.Serving.{HasOnlyServed, InWalk, IsOfWalk, IsServeFor, IsServing, IsWalking, LeavesLog, MayWalk, walk_by}
-use Rattle.tab_walk.specs.Moving.{HasOnlyMoved, IsMoveFor, IsOfMove}
+use Rattle.tab_serves.specs.Serving.{DiscardsNone, DiscardsUnheld, HasOnlyServed, InWalk, IsOfWalk, IsServeFor, IsServing, IsWalking, LeavesLog, MayWalk, walk_by}
+use Rattle.tab_walk.specs.Moving.{HasOnly, HasOnlyMoved, IsMoveFor, IsOfMove}
 use Rattle.seen_facts.proofs.Walk.Leaving.{all_served}
 use Rattle.seen_facts.proofs.Walk.Order.{walk_is as is_walk}
 use Rattle.seen_facts.specs.Walk.Serving.{AreServed}
@@ -64,6 +64,13 @@ made_served header t nav entry cause was out (inr made) =
     by_new : (b : Bool) → made.job.why ≡ make_why b t.running cause → (made.job.why ≡ show_why t.running cause) ⊎ (made.job.why ≡ cause)
     by_new true is = inr is
     by_new false is = inl is
+
+-- which discards nothing
+pub made_quiet : (header : Header) (t : Tables) (nav : NavId) (entry : EntryId) (cause : Why) (e : InEvent) (was out : List RowKind) → HasMade header t nav entry cause was out → DiscardsUnheld e was out
+made_quiet header t nav entry cause e was out (inl making) held =
+    subst (λ (l : List RowKind). HasOnly DiscardsNone was l) (sym making.1) (only_none DiscardsNone was)
+made_quiet header t nav entry cause e was out (inr made) held =
+    only_one DiscardsNone was out (rows.Sent made.job) made.is (rw made.task refl)
 
 -- then nobody wakes
 pub made_since : (header : Header) (t : Tables) (nav : NavId) (entry : EntryId) (cause : Why) (e : InEvent) (was out : List RowKind) → HasMade header t nav entry cause was out → AwakeSince (now_of e was) (nav ∷ []) (now_of e out)
@@ -124,15 +131,17 @@ module _ (p : InPass) (cause : Why) (navs : List NavId) where
         };
         left = record { history = refl; aim = refl; parked = refl; looks = refl; causes = λ why so. so; rows_ = λ are. are; calms = keeps_none (now_of p.event out); up = up_places (now_of p.event out) (now_of p.event out) refl; loading = λ are. are };
         only = only_none (IsServeFor t.running cause) out;
+        quiet = λ held. only_none DiscardsNone out;
         kept = kept_none t;
       }
 
-  pub serve_goes_on : (t : Tables) (was : List RowKind) (u : Tables) (out : List RowKind) (v : Tables) (new : List RowKind) (n : ℕ) → IsServing w t was u out n → IsWalking w (n + 1) new v → LeavesLog (now_of p.event out) (now_of p.event new) → HasOnlyServed u.running cause out new → KeepsStore u v → IsServing w t was v new (n + 1)
-  serve_goes_on t was u out v new n so walking left only kept =
+  pub serve_goes_on : (t : Tables) (was : List RowKind) (u : Tables) (out : List RowKind) (v : Tables) (new : List RowKind) (n : ℕ) → IsServing w t was u out n → IsWalking w (n + 1) new v → LeavesLog (now_of p.event out) (now_of p.event new) → HasOnlyServed u.running cause out new → DiscardsUnheld p.event out new → KeepsStore u v → IsServing w t was v new (n + 1)
+  serve_goes_on t was u out v new n so walking left only quiet kept =
       record {
         walking = walking;
         left = left_then (now_of p.event was) (now_of p.event out) (now_of p.event new) so.left left;
         only = only_then (IsServeFor t.running cause) was out new so.only (subst (λ (r : Option ReqId). HasOnlyServed r cause out new) so.kept.running only);
+        quiet = λ held. only_then DiscardsNone was out new (so.quiet held) (quiet held);
         kept = kept_then t u v so.kept kept;
       }
 

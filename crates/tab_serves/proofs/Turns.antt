@@ -21,7 +21,7 @@ use Rattle.nav_tree.specs.Tree.{document_of}
 use Rattle.seen_facts.specs.Asked.Asking.{HavePassed}
 use Rattle.plan_laws.proofs.NeedLaws.{needs_is}
 use Rattle.seen_laws.specs.InEvent.{InEvent, now_of}
-use Rattle.std.proofs.Common.{Bool, List, None, Option, Some, [], ap, arith, false, inl, inr, not, refl, subst, suc, sym, take, true, zero, ℕ, ◌&&◌, ◌+◌, ◌<◌, ◌==◌, ◌||◌, ◌∙◌, ◌∷◌, ◌≡◌, ◌≤◌, ◌⊎◌}
+use Rattle.std.proofs.Common.{Bool, List, None, Option, Some, [], ap, arith, false, inl, inr, not, refl, subst, suc, sym, take, true, zero, ℕ, ◌&&◌, ◌+◌, ◌++◌, ◌<◌, ◌==◌, ◌||◌, ◌∙◌, ◌∷◌, ◌≡◌, ◌≤◌, ◌⊎◌}
 use Rattle.std.specs.List.{list_any}
 use Rattle.std.specs.Prelude.{if◌then◌else◌, is_some, option_map, slice_get}
 use Rattle.tab_doors.specs.Working.{KeepsStore, MayDiscardIn}
@@ -35,6 +35,7 @@ use Rattle.tab_walk.specs.PassedOn.{HasMade, IsPassing, need_in}
 use Rattle.tab_walk.proofs.Thens.{IsAtOrBelow}
 use Rattle.tab_walk.proofs.Froms.{IsTurn}
 use Rattle.tab_walk.specs.Cutting.{show_why}
+use Rattle.tab_walk.proofs.Ends.{only_one}
 use Rattle.tab_walk.specs.Moving.{HasBeenMoved, HasOnly, MayMoveTo}
 use Rattle.row_facts.specs.WalkRows.Later.{IsLater}
 use Rattle.tab_passes.proofs.PassedOn.{leaver_below}
@@ -45,7 +46,7 @@ use Rattle.tab_serves.proofs.Calms.{made_calm, made_loads, made_place, moved_cal
 use Rattle.tab_serves.proofs.Ups.{turn_up, up_places}
 use Rattle.tab_serves.proofs.Orders.{IsOrderOf, looks_over, moved_over, parents_over, stood_over, walk_orders, ways_over, were_over}
 use Rattle.tab_serves.proofs.Reached.{loads_stand_still, reached_still}
-use Rattle.tab_serves.specs.Serving.{HasOnlyServed, HasWalked, InWalk, IsOfWalk, IsWalking, LeavesLater, LeavesLog}
+use Rattle.tab_serves.specs.Serving.{DiscardsNone, DiscardsUnheld, HasOnlyServed, HasWalked, InWalk, IsOfWalk, IsWalking, LeavesLater, LeavesLog}
 use Rattle.seen_facts.proofs.Walk.Leaving.{one_more, walk_stays}
 use Rattle.seen_facts.proofs.Walk.Placed.{found_nav}
 use Rattle.seen_facts.specs.Walk.Serving.{IsServedAt, is_needing, is_stopping}
@@ -57,6 +58,7 @@ use Rattle.row_facts.proofs.WalkRows.Walks.{below_moved, later_here, later_kept,
 use Rattle.row_facts.specs.WalkRows.Later.{MovesLater}
 use Rattle.row_facts.specs.WalkRows.Since.{AwakeSince, IsVisitedInNeed, WasAwake}
 use Rattle.apply_plan.specs.declared.need.Need.TheVariants as needs
+use Rattle.log_model.specs.declared.row_kind.RowKind.TheVariants as rows
 
 -- ---- the first ones of a list
 
@@ -192,6 +194,16 @@ module _ (w : InWalk) (n : ℕ) (out : List RowKind) (t : Tables) (walking : IsW
     -- and then no step is in its check
     frees_here : 1 ≤ needing.place.epoch.0 → MayDiscardIn false e
     frees_here = walking.frees nav needing.place own_later needing.placed visited
+
+    -- so a move discards nothing where one is
+    pub move_quiet : (new : List RowKind) → HasBeenMoved e nav out new → DiscardsUnheld e out new
+    move_quiet new moved held = by_epoch needing.place.epoch.0 refl
+      where
+        by_epoch : (n : ℕ) → needing.place.epoch.0 ≡ n → HasOnly DiscardsNone out new
+        by_epoch zero is_ =
+            let none : needing.place.last ≡ None = (needing.standing.told.0 is_).last in
+            only_one DiscardsNone out new (rows.Sent moved.job) (moved.is ∙ ap (λ (l : List RowKind). l ++ rows.Sent moved.job ∷ []) (moved.first needing.place needing.placed none)) (rw moved.task refl)
+        by_epoch (suc n) is_ = absurd (held (frees_here (omega (arith, is_))))
 
     -- none at or below it was served before
     not_before : (other : NavId) (place : Place) → IsAtOrBelow nav other place → place_of s other ≡ Some place → has_nav (take n w.navs) other ≡ false

@@ -15,7 +15,8 @@ use Rattle.log_model.specs.declared.job.Task.{Task}
 use Rattle.log_model.specs.declared.job.Why.{Why}
 use Rattle.log_model.specs.declared.row_kind.RowKind.{RowKind}
 use Rattle.seen_laws.specs.InEvent.{InEvent, now_of}
-use Rattle.std.specs.Prelude.{List, Option, Some, [], false, is_some, map, take, true, ℕ, ◌∷◌, ◌≡◌, ◌≤◌, ◌⊎◌}
+use Rattle.checking_facts.specs.Prompts.{discarded_by}
+use Rattle.std.specs.Prelude.{List, None, Option, Some, [], false, is_some, map, take, true, ℕ, ◌∷◌, ◌≡◌, ◌≤◌, ◌⊎◌}
 use Rattle.tab_doors.specs.Working.{KeepsStore, MayDiscardIn}
 use Rattle.tab_doors.specs.declared.tables.Tables.{Tables}
 use Rattle.tab_ids.specs.declared.DocId.{DocId}
@@ -99,6 +100,14 @@ pub record IsServeFor (run : Option ReqId) (cause : Why) (row : RowKind) : Type 
 abbrev pub HasOnlyServed : Option ReqId → Why → List RowKind → List RowKind → Type 0
 HasOnlyServed run cause was out = HasOnly (IsServeFor run cause) was out
 
+-- the row discards no document
+abbrev pub DiscardsNone : RowKind → Type 0
+DiscardsNone row = discarded_by row ≡ None
+
+-- no document was discarded, if a step was in its check as the event began or was cut
+abbrev pub DiscardsUnheld : InEvent → List RowKind → List RowKind → Type 0
+DiscardsUnheld e was out = (MayDiscardIn false e → ⊥) → HasOnly DiscardsNone was out
+
 -- ---- what it leaves
 
 -- the navigable is shown at the current step and awake on the document, and not under its first epoch
@@ -167,4 +176,5 @@ pub record IsServing (w : InWalk) (t : Tables) (was : List RowKind) (u : Tables)
   pub walking : IsWalking w n out u
   pub left : LeavesLog (now_of w.pass.event was) (now_of w.pass.event out)
   pub only : HasOnlyServed t.running w.cause was out
+  pub quiet : DiscardsUnheld w.pass.event was out
   pub kept : KeepsStore t u

@@ -4,7 +4,7 @@ ghost use Rattle.seen_laws.specs.InEvent.{now_of};
 ghost use Rattle.tab_doors.specs.Working.{KeepsStore};
 ghost use Rattle.tab_walk.specs.PassedOn.{IsPassing, need_in};
 ghost use Rattle.tab_walk.specs.Cutting.{InPass};
-ghost use Rattle.tab_serves.specs.Serving.{HasOnlyServed, HasWalked, IsWalking, LeavesLog, MayWalk, walk_by};
+ghost use Rattle.tab_serves.specs.Serving.{DiscardsUnheld, HasOnlyServed, HasWalked, IsWalking, LeavesLog, MayWalk, walk_by};
 ghost use Rattle.seen_facts.specs.Walk.Serving.{AreServed};
 
 use address::OutOfMemory;
@@ -41,6 +41,7 @@ fn serve_one(
     ensures walking { OnOk result (IsWalking (walk_by p cause navs.now) (i + 1) out.new tables.new) }
     ensures left { OnOk result (LeavesLog (now_of p.event out.old) (now_of p.event out.new)) }
     ensures only { OnOk result (HasOnlyServed tables.old.running cause out.old out.new) }
+    ensures quiet { OnOk result (DiscardsUnheld p.event out.old out.new) }
     ensures kept { OnOk result (KeepsStore tables.old tables.new) }
 {
     let nav = *navs.at(i);
@@ -71,6 +72,7 @@ pub fn serve_all(
     ensures walked { OnOk result (HasWalked p.event (now_of p.event out.new)) }
     ensures left { OnOk result (LeavesLog (now_of p.event out.old) (now_of p.event out.new)) }
     ensures only { OnOk result (HasOnlyServed tables.old.running cause out.old out.new) }
+    ensures quiet { OnOk result (DiscardsUnheld p.event out.old out.new) }
     ensures kept { OnOk result (KeepsStore tables.old tables.new) }
 {
     let navs = walk(alloc, &tables.tree)?;

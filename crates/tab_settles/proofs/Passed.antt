@@ -17,10 +17,10 @@ use Rattle.log_model.specs.declared.row_kind.RowKind.{RowKind}
 use Rattle.move_queue.specs.Queue.{Queue}
 use Rattle.seen_laws.specs.InEvent.{InEvent, now_of}
 use Rattle.std.proofs.Common.{Bool, List, None, Option, Some, ap, arith, false, inl, inr, length, length-append, refl, subst, sym, true, ℕ, ◌+◌, ◌<◌, ◌∙◌, ◌≡◌, ◌⊎◌}
-use Rattle.tab_releases.proofs.PassedOn.{aim_is, left_blamed, own_document, queue_left, stand_awake, stand_bare, waiting_passed}
+use Rattle.tab_releases.proofs.PassedOn.{aim_is, left_blamed, own_document, put_quiet, queue_left, stand_awake, stand_bare, waiting_passed}
 use Rattle.tab_releases.proofs.Releases.{IsByItsOwn, mades_same, queue_over}
 use Rattle.tab_facts.specs.TabEvents.Between.{AreSwept, orders_go}
-use Rattle.tab_releases.specs.PassedOn.{AreBlamed, AreLeftStrays, HasOnly, HasPassed, HasPaused, HasPutOut, HasQueue, KeepsStore, LeavesCalm, LeavesPass, LoadsLive, MayPass, MayStand, SendsForStrays, aim_in}
+use Rattle.tab_releases.specs.PassedOn.{AreBlamed, AreLeftStrays, DiscardsUnheld, HasOnly, HasPassed, HasPaused, HasPutOut, HasQueue, KeepsStore, LeavesCalm, LeavesPass, LoadsLive, MayPass, MayStand, NoneStray, SendsForStrays, aim_in}
 use Rattle.tab_releases.specs.Releasing.{HoldsParked, InPass, IsPassing, LoadsMadeOwn, Tables}
 use Rattle.tab_ids.specs.declared.NavId.{NavId}
 use Rattle.tab_ids.specs.declared.ReqId.{ReqId}
@@ -216,7 +216,7 @@ module _ (p : InPass) (out : List RowKind) (t : Tables) (queue : Queue) (blame :
         by_calm (inr around) =
             inr (around.0, (paused.left.calms.around aim_now around.0 around.1.0, applied_after p.event cause tells out new paused.passing.work.goes (subst (λ (r : Option ReqId). HasPutOut p.event r cause tells out new) paused.idle paused.only) around.0 around.1.1))
 
-    pub waited : HasWaited p new u queue noted cause
+    pub waited : HasWaited p out new u queue noted cause
     waited =
         record {
           idle = no_run;
@@ -235,6 +235,9 @@ module _ (p : InPass) (out : List RowKind) (t : Tables) (queue : Queue) (blame :
             theirs = theirs_then new u noted tells paused.passing paused.left paused.only paused.kept;
             queueing = queueing_then new u noted tells paused.passing paused.left paused.only paused.kept;
           };
+          ends = paused.ends;
+          stand = paused.loads;
+          rests = paused.rests;
         }
 
 -- ---- what was put out
@@ -264,3 +267,14 @@ pub grown_since : (e : InEvent) (first out new : List RowKind) → HasPut e firs
 grown_since e first out new put more =
     let long : length out ≡ length first + length put.more = ap (λ (l : List RowKind). length l) put.is ∙ length-append first put.more in
     omega (arith, long, more)
+
+-- where nothing was put out before the pass whose walk waits, it waits since then
+pub waited_since : (p : InPass) (first was out : List RowKind) (t : Tables) (queue : Queue) (blame : List (StateId × ReqId)) (cause : Why) → was ≡ first → HasWaited p was out t queue blame cause → HasWaited p first out t queue blame cause
+waited_since p first was out t queue blame cause same waits =
+    subst (λ (l : List RowKind). HasWaited p l out t queue blame cause) same waits
+
+-- where no traversal runs, and no document is stray, a pass discards nothing where a step was in its check
+pub pass_quiet : (e : InEvent) (first out new : List RowKind) (run : Option ReqId) (cause tells : Why) → run ≡ None → out ≡ first → HasPutOut e run cause tells out new → NoneStray (now_of e first) → DiscardsUnheld e first new
+pass_quiet e first out new run cause tells idle same put none =
+    subst (λ (l : List RowKind). DiscardsUnheld e l new) same
+    (put_quiet e cause tells out new (subst (λ (r : Option ReqId). HasPutOut e r cause tells out new) idle put) (subst (λ (l : List RowKind). NoneStray (now_of e l)) (sym same) none))

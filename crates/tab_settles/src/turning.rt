@@ -106,6 +106,8 @@ pub(crate) fn take_turn(
     ensures fewer { IfOk result (λ did. did ≡ true → turns_left tables.new.running queue.new.waiting < turns_left tables.old.running queue.old.waiting) }
     ensures turned { IfOk result (λ did. did ≡ true → HasTurned p.event out.old out.new) }
     ensures still { IfOk result (λ did. did ≡ false → out.new ≡ out.old) }
+    ensures waits { IfOk result (λ did. holds ≡ true → did ≡ false) }
+    ensures stays { OnOk result (holds ≡ true → queue.new ≡ queue.old) }
     ensures rested { IfOk result (λ did. did ≡ false → HasSettled p out.new tables.new queue.new blame.new.entries reasons.new.cause) }
     ensures due { holds ≡ false → IfOk result (λ did. did ≡ false → IsOver p.event out.new tables.new.running queue.new.waiting) }
     ensures alone { NoneRunsWhileHeld holds tables.new.running }

@@ -20,7 +20,7 @@ serve_one-requires g c = (
 pub loop-i-preserved : goal.loop-i-preserved
 loop-i-preserved g c =
     serve_goes_on g.p _ _ _ _ _ _ _ _ _ c.loop-i.invariant
-    (subst (λ (l : List NavId). IsWalking (walk_by g.p c.args.cause l) (c.loop-i.i + 1) c.serve_one.new.out c.serve_one.new.tables) (sym c.navs.view_is) c.in_ok-serve_one.ensures.walking) c.in_ok-serve_one.ensures.left c.in_ok-serve_one.ensures.only c.in_ok-serve_one.ensures.kept
+    (subst (λ (l : List NavId). IsWalking (walk_by g.p c.args.cause l) (c.loop-i.i + 1) c.serve_one.new.out c.serve_one.new.tables) (sym c.navs.view_is) c.in_ok-serve_one.ensures.walking) c.in_ok-serve_one.ensures.left c.in_ok-serve_one.ensures.only c.in_ok-serve_one.ensures.quiet c.in_ok-serve_one.ensures.kept
 
 pub returns-clause-served : goal.returns-clause-served
 returns-clause-served g c =

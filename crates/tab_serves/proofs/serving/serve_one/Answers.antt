@@ -1,7 +1,7 @@
 use Rattle.apply_plan.specs.declared.need.Need.{Need}
 use Rattle.std.proofs.Common.{Some, ap, refl, sym, ◌∙◌}
-use Rattle.tab_serves.proofs.Rounds.{made_served, made_since, moved_served}
-use Rattle.tab_serves.proofs.Turns.{idle_left, idle_walking, made_left, make_own, may_move, move_own, moved_left, turn_walking}
+use Rattle.tab_serves.proofs.Rounds.{made_quiet, made_served, made_since, moved_served}
+use Rattle.tab_serves.proofs.Turns.{idle_left, idle_walking, made_left, make_own, may_move, move_own, move_quiet, moved_left, turn_walking}
 use Rattle.tab_serves.proofs.serving.serve_one.Goals as goal
 use Rattle.tab_serves.specs.Serving.{walk_by}
 use Rattle.tab_walk.proofs.PassedOn.{only_none}
@@ -47,3 +47,13 @@ returns-in_ok-make_target-in-Populate-clause-left g c =
 
 pub returns-in_ok-make_target-in-Populate-clause-only : goal.returns-in_ok-make_target-in-Populate-clause-only
 returns-in_ok-make_target-in-Populate-clause-only g c = made_served _ _ _ _ _ _ _ c.in_ok-make_target-in-Populate.ensures.made
+
+pub returns-in_ok-move_to-in-Move-clause-quiet : goal.returns-in_ok-move_to-in-Move-clause-quiet
+returns-in_ok-move_to-in-Move-clause-quiet g c =
+    move_quiet (walk_by g.p c.args.cause c.args.navs.now) c.args.i c.args.out.now c.args.tables.now c.requires.0 c.at-nav.result.now c.at-nav.ensures _ (sym c.need_at.ensures ∙ c.in-Some.is) _ c.in_ok-move_to-in-Move.ensures.moved
+
+pub returns-in_ok-make_target-in-Populate-clause-quiet : goal.returns-in_ok-make_target-in-Populate-clause-quiet
+returns-in_ok-make_target-in-Populate-clause-quiet g c = made_quiet _ _ _ _ _ g.p.event _ _ c.in_ok-make_target-in-Populate.ensures.made
+
+pub returns-in-None-clause-quiet : goal.returns-in-None-clause-quiet
+returns-in-None-clause-quiet g c = λ held. only_none _ _

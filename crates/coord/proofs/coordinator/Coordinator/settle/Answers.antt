@@ -8,14 +8,14 @@ use Rattle.tab_ids.specs.declared.ReqId.{ReqId}
 
 -- it is so unless it would be so that is not
 surely : (rests : Bool) → (rests ≡ false → false ≡ true) → rests ≡ true
-surely true asked = refl
-surely false asked = let never : false ≡ true = asked refl in absurd cc
+surely true held = refl
+surely false held = let never : false ≡ true = held refl in absurd cc
 
 pub settle-requires : goal.settle-requires
 settle-requires g c =
     let free : MayDiscardIn false g.e = none_steps g.e.checking (λ req. ap (λ (f : ReqId → Bool). f req) c.requires.unchecked) (log_of g.e []) in
-    (c.requires.header, (c.requires.ready, (λ never. absurd cc, (c.requires.slots, (λ held. free, λ bare. free)))))
+    (c.requires.header, (c.requires.ready, (λ never. absurd cc, (c.requires.slots, λ held. free))))
 
 pub returns-clause-acted : goal.returns-clause-acted
 returns-clause-acted g c =
-    settled_acts g.e c.args.out.now _ c.args.self.now _ _ _ c.requires refl refl (c.in_ok-settle.ensures.settled (surely _ c.in_ok-settle.ensures.asked)) (c.in_ok-settle.ensures.due (surely _ c.in_ok-settle.ensures.asked) refl) c.in_ok-settle.ensures.put c.in_ok-settle.ensures.off
+    settled_acts g.e c.args.out.now _ c.args.self.now _ _ _ c.requires refl refl (c.in_ok-settle.ensures.settled (surely _ c.in_ok-settle.ensures.held)) (c.in_ok-settle.ensures.due (surely _ c.in_ok-settle.ensures.held) refl) c.in_ok-settle.ensures.put c.in_ok-settle.ensures.off
