@@ -17,7 +17,7 @@ use Rattle.log_model.specs.Seen.{Asked, Seen, request_of}
 use Rattle.unload_check.specs.Checks.{OpenCheck, after_all_deaths, ended}
 use Rattle.seen_laws.proofs.Cuts.{log_cut}
 use Rattle.seen_laws.proofs.InEvents.{IsQuiet, log_more}
-use Rattle.seen_laws.specs.InEvent.{InEvent, begins, cut, here_of, log_of, row_of}
+use Rattle.seen_laws.specs.InEvent.{InEvent, begins, cut, here_of, log_of, row_of, wanting}
 use Rattle.seen_laws.specs.Blocks.{EachPass}
 use Rattle.seen_laws.specs.Owing.{Pays}
 use Rattle.seen_laws.specs.Sending.{leads}
@@ -28,7 +28,7 @@ use Rattle.check_facts.specs.Prompting.{Agrees, IsAskDue, todo_of}
 use Rattle.unasked_dues.specs.Checking.{NonePasses}
 use Rattle.checking_facts.proofs.Entering.{passed_checks}
 use Rattle.checking_facts.proofs.Grown.{req_same}
-use Rattle.checking_facts.proofs.Nobody.{pass_cut}
+use Rattle.checking_facts.proofs.Nobody.{pass_cut, pass_wanting}
 use Rattle.checking_facts.proofs.Rows.{row_checks}
 use Rattle.checking_facts.proofs.Settles.{silent_waits}
 use Rattle.checking_facts.proofs.Steps.{PassesBy, more_duly, more_pass}
@@ -81,6 +81,17 @@ module _ (e : InEvent) (out : List RowKind) (checking : ReqId → Bool) (due : S
 pub stands_same : (Rest : List LogRow → Type 0) (but : ReqId → Bool) (e : InEvent) (out : List RowKind) (told : Told) (due : Seen → Bool) → StandsAsked Rest but e out told → StandsAsked Rest but (cut e out e.checking due) [] told
 stands_same Rest but e out told due stands =
     stands_cut e out e.checking due Rest but told stands.pass stands.asked stands.checks stands.none stands.notes
+
+-- whatever is wanted of the rows behind the cut
+pub stands_wanting : (Rest : List LogRow → Type 0) (but : ReqId → Bool) (e : InEvent) (out : List RowKind) (told : Told) (wants : List LogRow → Bool) → StandsAsked Rest but e out told → StandsAsked Rest but (wanting e wants) out told
+stands_wanting Rest but e out told wants stands =
+    record {
+      pass = pass_wanting Rest e (todo_of told.checks) out wants stands.pass;
+      asked = stands.asked;
+      checks = stands.checks;
+      none = stands.none;
+      notes = stands.notes;
+    }
 
 -- what is asked of later rows may be more
 pub stands_less : (Before Rest : List LogRow → Type 0) (but : ReqId → Bool) (e : InEvent) (out : List RowKind) (told : Told) → ((later : List LogRow) → Rest later → Before later) → StandsAsked Before but e out told → StandsAsked Rest but e out told

@@ -1,5 +1,5 @@
 -- A row beside the checks: what it leaves of them, and that it stands beside the prompts that are to come.
-use Rattle.std.proofs.Common.{◌≡◌, ℕ, Bool, true, false, ◌&&◌, ◌==◌, Option, Some, None, refl, sym, ap, ◌∙◌, subst}
+use Rattle.std.proofs.Common.{◌≡◌, ◌⊎◌, inl, inr, ℕ, Bool, true, false, ◌&&◌, ◌==◌, List, [], ◌∷◌, ◌++◌, Option, Some, None, refl, sym, ap, ◌∙◌, subst}
 use Rattle.tab_ids.specs.declared.DocId.{DocId}
 use Rattle.tab_ids.specs.declared.ReqId.{ReqId}
 use Rattle.log_model.specs.declared.job.Job.{Job}
@@ -20,6 +20,8 @@ use Rattle.log_model.specs.Places.{is_gone}
 use Rattle.log_model.specs.Seen.{Asked, Document, Seen, request_of}
 use Rattle.seen_facts.proofs.Coord.Held.{on_else}
 use Rattle.seen_facts.proofs.Each.Courses.{is_asked}
+use Rattle.seen_facts.proofs.Hang.Members.{has_more}
+use Rattle.seen_facts.specs.Hang.Members.{Has}
 use Rattle.seen_facts.proofs.Request.Readers.{SameReads}
 use Rattle.check_facts.proofs.Asides.{applied_aside, dropped_aside, refused_aside, sent_aside, started_aside}
 use Rattle.check_facts.proofs.Gones.{applied_one}
@@ -31,11 +33,29 @@ use Rattle.check_facts.specs.Prompting.{HaveNumbers, IsAside, NothingElseDue}
 use Rattle.check_facts.specs.Rows.{IsNoQuestion, IsServing}
 use Rattle.unasked_dues.specs.Checking.{IsForOther}
 use Rattle.checking_facts.proofs.Grown.{req_same}
-use Rattle.checking_facts.specs.Prompts.{GoesBeside, SendsBeside, discarded_by}
+use Rattle.checking_facts.specs.Prompts.{EachEndsOff, EndsOff, GoesBeside, SendsBeside, discarded_by}
 
 and_false : (b : Bool) → (b && false) ≡ false
 and_false true = refl
 and_false false = refl
+
+-- ---- what it ends isn't in its check
+
+pub beside_ends : (checking : ReqId → Bool) (s : Seen) (kind : RowKind) → GoesBeside checking s kind → EndsOff checking kind
+beside_ends checking s (rows.Sent job) beside = tt
+beside_ends checking s (rows.Started req goal) beside = tt
+beside_ends checking s (rows.Applied req change) beside = tt
+beside_ends checking s (rows.Refused req reason) beside = beside.0
+beside_ends checking s (rows.Dropped req cause) beside = beside
+beside_ends checking s _ never = absurd never
+
+-- so it is of all rows, with one more
+pub ends_more : (checking : ReqId → Bool) (out : List RowKind) (kind : RowKind) → EachEndsOff checking out → EndsOff checking kind → EachEndsOff checking (out ++ kind ∷ [])
+ends_more checking out kind each ends row has = by_place (has_more out kind row has)
+  where
+    by_place : Has out row ⊎ (kind ≡ row) → EndsOff checking row
+    by_place (inl before) = each row before
+    by_place (inr same) = subst (EndsOff checking) same ends
 
 -- ---- orders that ask nothing
 

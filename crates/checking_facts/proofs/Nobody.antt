@@ -11,11 +11,11 @@ use Rattle.log_model.specs.Places.{has_passed, is_gone, is_under_way}
 use Rattle.log_model.specs.Seen.{Asked, Seen, request_of}
 use Rattle.unload_check.specs.Checks.{OpenCheck, after_deaths, check_of}
 use Rattle.row_facts.specs.FrameRows.Lawful.{AreLawful, has_traversed}
-use Rattle.row_facts.proofs.FrameRows.Cut.{rest_cut, same_rows}
+use Rattle.row_facts.proofs.FrameRows.Cut.{rest_cut, rest_wanting, same_rows}
 use Rattle.seen_laws.proofs.Cuts.{log_cut}
 use Rattle.seen_laws.proofs.InEvents.{pays_end, taken_end}
 use Rattle.seen_laws.specs.Blocks.{EachPass}
-use Rattle.seen_laws.specs.InEvent.{InEvent, IsPaid, IsTakenIn, cut, later_of, log_of, now_of, rows_of, start_of}
+use Rattle.seen_laws.specs.InEvent.{InEvent, IsPaid, IsTakenIn, cut, later_of, log_of, now_of, rows_of, start_of, wanting}
 use Rattle.seen_laws.specs.Unasked.{unasked, unasked_request}
 use Rattle.unasked.proofs.Readings.{request_read}
 use Rattle.check_facts.proofs.Agreeing.{agree_none}
@@ -130,6 +130,19 @@ pass_cut Rest e todo out checking due pass later rest =
       },
       rest.1,
     ))
+
+-- and whatever is wanted of the rows behind a cut
+pub pass_wanting : (Rest : List LogRow → Type 0) (e : InEvent) (todo : ReqId → Option DocId) (out : List RowKind) (wants : List LogRow → Bool) → PassIf Rest e todo out → PassIf Rest (wanting e wants) todo out
+unfolding PassIf
+pass_wanting Rest e todo out wants pass later rest =
+    pass later (
+      record {
+        rest = rest_wanting e wants out later rest.0.rest;
+        prompts = rest.0.prompts;
+        agrees = rest.0.agrees;
+      },
+      rest.1,
+    )
 
 -- ---- a table without checks stays one
 

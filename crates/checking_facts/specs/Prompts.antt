@@ -14,6 +14,7 @@ use Rattle.log_model.specs.Places.{is_gone}
 use Rattle.log_model.specs.Seen.{Asked, Document, Seen, document_of, request_of}
 use Rattle.unload_check.specs.Checks.{OpenCheck, after_all_deaths, check_of}
 use Rattle.seen_facts.proofs.Request.Readers.{SameReads}
+use Rattle.seen_facts.specs.Hang.Members.{Has}
 use Rattle.seen_laws.specs.Blocks.{MayLog, point_at}
 use Rattle.seen_laws.specs.InEvent.{InEvent, here_of, row_of, rows_of, start_of}
 use Rattle.check_facts.proofs.Rows.{plain_of}
@@ -100,6 +101,19 @@ GoesBeside checking s (rows.Refused req reason) = (checking req ≡ false) × Is
 GoesBeside checking s (rows.Dropped req cause) = checking req ≡ false
 GoesBeside checking s (rows.Sent job) = SendsBeside checking s job job.task
 GoesBeside checking s _ = ⊥
+
+-- a row of a coordinator that ends no request in its check
+abbrev pub EndsOff : (ReqId → Bool) → RowKind → Type 0
+EndsOff checking (rows.Sent job) = Unit {0}
+EndsOff checking (rows.Started req goal) = Unit {0}
+EndsOff checking (rows.Applied req change) = Unit {0}
+EndsOff checking (rows.Refused req reason) = checking req ≡ false
+EndsOff checking (rows.Dropped req cause) = checking req ≡ false
+EndsOff checking _ = ⊥
+
+-- each of these is one
+abbrev pub EachEndsOff : (ReqId → Bool) → List RowKind → Type 0
+EachEndsOff checking out = (row : RowKind) → Has out row → EndsOff checking row
 
 -- ---- the rows so far pass
 

@@ -19,7 +19,7 @@ use Rattle.log_model.specs.declared.job.Task.{Task}
 use Rattle.log_model.specs.declared.job.Why.{Why}
 use Rattle.nav_tree.specs.Tree.{node_of}
 use Rattle.tab_facts.specs.Order.Orders.{TellsOf}
-use Rattle.seen_laws.specs.InEvent.{InEvent, log_of, now_of, later_of, IsTakenIn}
+use Rattle.seen_laws.specs.InEvent.{InEvent, log_of, now_of, later_of, IsTakenIn, WantsNothing}
 use Rattle.slot_facts.specs.Slots.{AreSlots}
 use Rattle.std.proofs.Common.{Bool, None, Some, [], ap, refl, subst, ℕ, ◌∙◌, ◌≡◌, List, ◌++◌}
 use Rattle.std.specs.Option.{IsSome}
@@ -46,11 +46,12 @@ pub keep_now : (e : InEvent) (c : Coordinator) → IsOpenIn e c → c.tables.kep
 keep_now e c open_ = open_.stands.keep ∙ ap (λ (h : Header). h.keep) open_.header
 
 -- where an event has begun, and what it delivers is taken up, the tab may be brought to rest
-pub to_settle : (e : InEvent) (c : Coordinator) → c.header ≡ e.header → e.checking ≡ nobody → StartsPlain e → AskingKnown (log_of e []) → HasBegun (pass_of e []) c.tables c.queue c.blame.entries → (cause : Why) → MayCause (now_of e []) cause → ((later : List LogRow) → IsTakenIn e later) → AreFoundRunning (now_of e []) → AreTelling (now_of e []) → AreSlots (log_of e []) c.slots.entries → IsToSettle e [] c cause
-to_settle e c header unchecked starts known begun cause may taken found telling slots =
+pub to_settle : (e : InEvent) (c : Coordinator) → c.header ≡ e.header → e.checking ≡ nobody → WantsNothing e → StartsPlain e → AskingKnown (log_of e []) → HasBegun (pass_of e []) c.tables c.queue c.blame.entries → (cause : Why) → MayCause (now_of e []) cause → ((later : List LogRow) → IsTakenIn e later) → AreFoundRunning (now_of e []) → AreTelling (now_of e []) → AreSlots (log_of e []) c.slots.entries → IsToSettle e [] c cause
+to_settle e c header unchecked unwanted starts known begun cause may taken found telling slots =
     record {
       header = header;
       unchecked = unchecked;
+      unwanted = unwanted;
       starts = starts;
       ready = ready (pass_of e []) c.tables c.queue c.blame.entries begun refl (λ nav place placed need since. none_steps e.checking (λ req. ap (λ (f : ReqId → Bool). f req) unchecked) (log_of e [])) cause may;
       makes = begun.makes;
@@ -97,7 +98,7 @@ module _ (d : InDone) (c : Coordinator) (job : Job) (done : IsDone d c job) wher
 
   pub quiet_settles : IsQuietTask job.task → IsToSettle d.event [] c whys.Start
   quiet_settles quiet =
-      to_settle e c done.open_.header done.open_.unchecked done_aside.plain done_logged.lasts.known (quiet_begun e d.proc job d.outcome done_seen c.tables c.queue c.blame.entries done_stands done_read quiet done_logged (seen_room e c done.open_) (keep_now e c done.open_)) whys.Start (for_none (now_of e [])) done_taken done_found done_telling done.slots
+      to_settle e c done.open_.header done.open_.unchecked done.open_.unwanted done_aside.plain done_logged.lasts.known (quiet_begun e d.proc job d.outcome done_seen c.tables c.queue c.blame.entries done_stands done_read quiet done_logged (seen_room e c done.open_) (keep_now e c done.open_)) whys.Start (for_none (now_of e [])) done_taken done_found done_telling done.slots
 
   -- its document's navigable is there
   pub shown_there : (nav : NavId) → nav_in c.tables.whose.entries job.doc ≡ Some nav → IsSome (node_of nav c.tables.tree)
@@ -106,7 +107,7 @@ module _ (d : InDone) (c : Coordinator) (job : Job) (done : IsDone d c job) wher
 
   pub shown_settles : IsShowTask job.task → (u : Tables) → u ≡ record c.tables { tree = shown_tree c.tables job.doc job.nr } → IsToSettle d.event [] (record c { tables = u }) whys.Start
   shown_settles shows u is =
-      to_settle e (record c { tables = u }) done.open_.header done.open_.unchecked done_aside.plain done_logged.lasts.known (shown_begun e d.proc job d.outcome done_seen c.tables c.queue c.blame.entries done_stands done_read shows done_logged (seen_room e c done.open_) (keep_now e c done.open_) u is) whys.Start (for_none (now_of e [])) done_taken done_found done_telling done.slots
+      to_settle e (record c { tables = u }) done.open_.header done.open_.unchecked done.open_.unwanted done_aside.plain done_logged.lasts.known (shown_begun e d.proc job d.outcome done_seen c.tables c.queue c.blame.entries done_stands done_read shows done_logged (seen_room e c done.open_) (keep_now e c done.open_) u is) whys.Start (for_none (now_of e [])) done_taken done_found done_telling done.slots
 
   -- no order asks anybody
   pub no_ask : (slot : ℕ) (cause : LeaveCause) → job.task ≡ tasks.Ask slot cause → ⊥

@@ -121,6 +121,7 @@ module _ (e : InEvent) (state : StateId) (c : Coordinator) (open_ : IsOpenTo e c
         record {
           header = header ∙ open_.in_.header;
           unchecked = open_.in_.unchecked;
+          unwanted = open_.in_.unwanted;
           starts = aside.plain;
           ready =
               subst (λ (l : List (StateId × ReqId)). IsReady (pass_of e []) out after.tables after.queue l whys.Evict) (sym noted)

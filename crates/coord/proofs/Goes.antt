@@ -41,7 +41,7 @@ module _ (e : InEvent) (c : Coordinator) (open_ : IsOpenTo e c) (req : ReqId) (d
 
   pub go_settles : (left : Queue) → left ≡ record c.queue { waiting = c.queue.waiting ++ Traverse req delta ∷ [] } → IsToSettle e [] (record c { queue = left }) whys.Start
   go_settles left pushed =
-      to_settle e (record c { queue = left }) open_.in_.header open_.in_.unchecked aside.plain logged.lasts.known (go_begun e c.tables c.queue c.blame.entries (seen_stands e c open_.in_) logged (seen_room e c open_.in_) (keep_now e c open_.in_) req delta asked.by_user asked.own (next_start e req.0 asked.next) left pushed) whys.Start (for_none (now_of e []))
+      to_settle e (record c { queue = left }) open_.in_.header open_.in_.unchecked open_.in_.unwanted aside.plain logged.lasts.known (go_begun e c.tables c.queue c.blame.entries (seen_stands e c open_.in_) logged (seen_room e c open_.in_) (keep_now e c open_.in_) req delta asked.by_user asked.own (next_start e req.0 asked.next) left pushed) whys.Start (for_none (now_of e []))
       (takes_none e req None (requests.Go delta) asked.by_user asked.own (next_start e req.0 asked.next) logged.logged.read)
       (accepted_found e c open_.in_ req None (requests.Go delta) asked.own)
       (accepted_telling e c open_.in_ req None (requests.Go delta) asked.own)

@@ -67,6 +67,7 @@ open_then e c heard same open_ =
       uncut = open_.uncut;
       undue = open_.undue;
       unchecked = open_.unchecked;
+      unwanted = open_.unwanted;
     })
 
 -- its slots are those of the log

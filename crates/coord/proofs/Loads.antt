@@ -276,6 +276,7 @@ module _ (e : InEvent) (c : Coordinator) (open_ : IsOpenTo e c) (req : ReqId) (n
       record {
         header = header ∙ open_.in_.header;
         unchecked = open_.in_.unchecked;
+        unwanted = open_.in_.unwanted;
         starts = (accepted_plain e c open_.in_ req None (requests.Load nav mode address) asked.own).same;
         ready = subst (λ (w : Why). IsReady (pass_of e []) out after.tables after.queue after.blame.entries w) (sym is) ready;
         makes = load_makes e c.tables c.queue c.blame.entries stands req nav mode address load_asks load_lasts out after.tables after.blame.entries loaded came after.queue ready;

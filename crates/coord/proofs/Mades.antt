@@ -80,7 +80,7 @@ module _ (d : InDelivery) (c : Coordinator) (made : Made) (its : IsMade d c made
 
   pub joined_settles : (delta : ℤ) → made.what ≡ whats.Go delta → (left : Queue) → left ≡ record c.queue { waiting = c.queue.waiting ++ Traverse made.req delta ∷ [] } → IsToSettle d.event [] (record c { queue = left }) whys.Start
   joined_settles delta goes left pushed =
-      to_settle e (record c { queue = left }) its.open_.header its.open_.unchecked plain logged.lasts.known (joined_begun e d.proc d.report made heard its.tells c.tables c.queue c.blame.entries stands aside delta goes logged room (keep_now e c its.open_) left pushed) whys.Start (for_none (now_of e []))
+      to_settle e (record c { queue = left }) its.open_.header its.open_.unchecked its.open_.unwanted plain logged.lasts.known (joined_begun e d.proc d.report made heard its.tells c.tables c.queue c.blame.entries stands aside delta goes logged room (keep_now e c its.open_) left pushed) whys.Start (for_none (now_of e []))
       (went_takes e d.proc d.report made heard its.tells c.tables c.queue c.blame.entries stands aside delta goes) found_now telling_now its.slots
 
   -- ---- a change
@@ -98,7 +98,7 @@ module _ (d : InDelivery) (c : Coordinator) (made : Made) (its : IsMade d c made
 
       pub parked_settles : (left : Queue) → left ≡ record c.queue { parked = c.queue.parked ++ made ∷ [] } → IsToSettle d.event [] (record c { queue = left }) whys.Start
       parked_settles left parked =
-          to_settle e (record c { queue = left }) its.open_.header its.open_.unchecked plain logged.lasts.known (parked_begun e d.proc d.report made heard its.tells c.tables c.queue c.blame.entries stands aside (changes_no_go made.what changes) held logged room (keep_now e c its.open_) left parked) whys.Start (for_none (now_of e []))
+          to_settle e (record c { queue = left }) its.open_.header its.open_.unchecked its.open_.unwanted plain logged.lasts.known (parked_begun e d.proc d.report made heard its.tells c.tables c.queue c.blame.entries stands aside (changes_no_go made.what changes) held logged room (keep_now e c its.open_) left parked) whys.Start (for_none (now_of e []))
           (held_takes e d.proc d.report made heard its.tells c.tables c.queue c.blame.entries stands aside held) found_now telling_now its.slots
 
     -- it doesn't
@@ -141,6 +141,7 @@ module _ (d : InDelivery) (c : Coordinator) (made : Made) (its : IsMade d c made
             record {
               header = header ∙ its.open_.header;
               unchecked = its.open_.unchecked;
+              unwanted = its.open_.unwanted;
               starts = plain;
               ready =
                   subst (λ (l : List (StateId × ReqId)). IsReady (pass_of d.event []) out after.tables after.queue l (whys.Req made.req)) (sym blame)

@@ -220,7 +220,7 @@ module _ (d : InDone) (c : Coordinator) (job : Job) (done : IsDone d c job) (sta
 
   pub placed_settles : (then_ after : Coordinator) → HasPlaced c then_ job.doc state → after.header ≡ then_.header → after.tables ≡ then_.tables → after.queue ≡ then_.queue → after.slots.entries ≡ then_.slots.entries → IsMadeNoted (now_of d.event []) c.blame.entries after.blame.entries job.doc state → IsToSettle d.event [] after job.why
   placed_settles then_ after placed header tables queue slots noted =
-      to_settle e after (header ∙ placed.header ∙ done.open_.header) done.open_.unchecked (done_aside d c job done).plain (done_logged d c job done).lasts.known
+      to_settle e after (header ∙ placed.header ∙ done.open_.header) done.open_.unchecked done.open_.unwanted (done_aside d c job done).plain (done_logged d c job done).lasts.known
       (subst (λ (q : Queue). HasBegun (pass_of e []) after.tables q after.blame.entries) (sym queue)
       (subst (λ (x : Tables). HasBegun (pass_of e []) x then_.queue after.blame.entries) (sym tables)
       (placed_begun e d.proc job d.outcome heard t c.queue c.blame.entries stands aside its.nav state its.address its.initial its.task placed.one_each then_.tables placed.one placed.run (done_logged d c job done) (seen_room e c done.open_) (keep_now e c done.open_) then_.queue placed.queue after.blame.entries noted)))

@@ -146,6 +146,7 @@ module _ (d : InDone) (c : Coordinator) (job : Job) (done : IsDone d c job) (sta
         record {
           header = header ∙ done.open_.header;
           unchecked = done.open_.unchecked;
+          unwanted = done.open_.unwanted;
           starts = (done_aside d c job done).plain;
           ready =
               subst (λ (l : List (StateId × ReqId)). IsReady (pass_of e []) out after.tables after.queue l whys.Start) (sym noted)

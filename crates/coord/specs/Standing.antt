@@ -18,7 +18,7 @@ use Rattle.tab_facts.specs.Order.Orders.{IsOfCoord}
 use Rattle.tab_facts.specs.Running.Running.{AreFoundRunning}
 use Rattle.tab_facts.specs.Running.Telling.{AreTelling}
 use Rattle.seen_laws.specs.Blocks.{EachPass}
-use Rattle.seen_laws.specs.InEvent.{InEvent, log_of, now_of, rows_of, start_of}
+use Rattle.seen_laws.specs.InEvent.{InEvent, WantsNothing, log_of, now_of, rows_of, start_of}
 use Rattle.slot_facts.specs.Slots.{AreSlots}
 use Rattle.std.specs.Prelude.{Bool, List, None, [], false, length, true, ℕ, ◌++◌, ◌+◌, ◌≡◌}
 use Rattle.tab_ids.specs.declared.NavId.{NavId}
@@ -58,13 +58,14 @@ pub record StandsFor (s : Seen) (c : Coordinator) : Type 0 where
 
 -- ---- an event begins
 
--- but for its slots, the coordinator stands for what the log had come to as the event began, with the event's settings; there is room for requests, nothing was put out before, so nothing is owed, and no request is in a check
+-- but for its slots, the coordinator stands for what the log had come to as the event began, with the event's settings; there is room for requests, nothing was put out before, so nothing is owed and nothing wanted of the rows to come, and no request is in a check
 pub record IsOpenIn (e : InEvent) (c : Coordinator) : Type 0 where
   pub header : c.header ≡ e.header
   pub stands : StandsBut e.start c
   pub room : HasRoomFor e.start
   pub uncut : e.before ≡ []
   pub undue : (end : Seen) → e.due end ≡ true
+  pub unwanted : WantsNothing e
   pub unchecked : e.checking ≡ nobody
 
 -- so it does, and its slots are those of then
@@ -89,10 +90,11 @@ pub record HasActed (e : InEvent) (out : List RowKind) (c : Coordinator) : Type 
   pub passes : EachPass (start_of e) (rows_of e out) []
   pub off : ChangesLeaveOff (log_of e out) out
 
--- a pass may follow, for this cause; no request is in a check, and nobody was asked as the event's own row was logged; what was delivered was taken up, if it was to be; the rows so far are a coordinator's, and move nobody; orders that make documents are for what orders may be for, and all are sound; as the event began each document shown was shown under its navigable's epoch, and what is known of questions, prompts and answers was known; fragment orders find their documents running, and reports of them tell of what was made; and the coordinator's slots are those of the log
+-- a pass may follow, for this cause; no request is in a check, nothing is wanted of the rows to come, and nobody was asked as the event's own row was logged; what was delivered was taken up, if it was to be; the rows so far are a coordinator's, and move nobody; orders that make documents are for what orders may be for, and all are sound; as the event began each document shown was shown under its navigable's epoch, and what is known of questions, prompts and answers was known; fragment orders find their documents running, and reports of them tell of what was made; and the coordinator's slots are those of the log
 pub record IsToSettle (e : InEvent) (out : List RowKind) (c : Coordinator) (cause : Why) : Type 0 where
   pub header : c.header ≡ e.header
   pub unchecked : e.checking ≡ nobody
+  pub unwanted : WantsNothing e
   pub starts : StartsPlain e
   pub ready : IsReady (pass_of e []) out c.tables c.queue c.blame.entries cause
   pub makes : MakesServe (now_of e out)

@@ -2,6 +2,7 @@
 use Rattle.unasked_dues.proofs.Read.{read_more, read_own}
 use Rattle.unasked_dues.proofs.Sole.{debts_own, sole_own}
 use Rattle.unasked.proofs.Nows.{refused_goes, refused_now}
+use Rattle.checking_facts.proofs.Besides.{ends_more}
 use Rattle.checking_facts.proofs.Rows.{row_checks, row_steps}
 use Rattle.checking_facts.proofs.Steps.{more_duly}
 use Rattle.checking_facts.specs.Prompts.{AreAskedDuly, IsUndropped, told_by}
@@ -45,7 +46,7 @@ use Rattle.tab_doors.proofs.Requests.{ended_moved, moved_same, runs_ended_apart}
 use Rattle.tab_doors.proofs.Works.{goal_read, goal_same, soles_more}
 use Rattle.tab_doors.specs.Look.{look_of, moved_by}
 use Rattle.tab_doors.specs.Ties.{AreInitial, Holds, IsRunning}
-use Rattle.tab_doors.specs.Working.{HasGoal, IsAhead, IsAtWork, IsWorker}
+use Rattle.tab_doors.specs.Working.{HasGoal, IsAhead, IsAtWork, IsToCome, IsWorker}
 use Rattle.tab_doors.specs.declared.tables.Tables.{Tables}
 use Rattle.tab_ids.specs.declared.ReqId.{ReqId}
 use Rattle.log_model.specs.declared.outcome.Ending.TheVariants as endings
@@ -141,6 +142,7 @@ module _ (e : InEvent) (t : Tables) (req : ReqId) (reason : Denial) (denied : Is
         unheld = λ free.
             subst (λ (x : Seen). NoStepChecks e.checking x) (sym (log_more e [] (rows.Refused req reason)))
             (row_steps e.checking (log_of e []) (row_of e (rows.Refused req reason)) tt tt free);
+        off = ends_more e.checking [] (rows.Refused req reason) (λ row has. absurd has) denied.off;
         holds = subst (λ (x : Seen). Holds (look_of x t.running) t) (sym now_is) (left_holds (look_of s t.running) (look_of n t.running) t refl refl refl moved refl refl refl tied.holds);
         runs = subst (λ (x : Seen). IsRunning x.requests t.running) (sym now_is) (runs_ended_apart s.requests t.running req (endings.Refused reason) apart tied.runs);
         goal = subst (λ (x : Seen). HasGoal x.requests t.running t.goal) (sym now_is) (goal_same s.requests over t.running t.goal (on_read goal_read s.requests req (λ q. record q { ending = Some (endings.Refused reason) }) (λ q. refl)) tied.goal);
@@ -151,7 +153,7 @@ module _ (e : InEvent) (t : Tables) (req : ReqId) (reason : Denial) (denied : Is
         asked =
             subst (λ (x : Seen). AreAskedDuly e.checking e.start x (told_by t.checks (rows.Refused req reason ∷ []))) (sym (log_more e [] (rows.Refused req reason)))
             (more_duly e [] (told_by t.checks []) logged.asked (rows.Refused req reason) (denied.off, undropped) (λ r. refl) held (IsAhead None) (IsAhead None) (λ later is. tt) (subst (λ (x : Seen). AllOthersPass e.checking x) (log_more e [] (rows.Refused req reason)) checks_.others));
-        lawful = lawful_pass (IsAhead None) e (noted_by t.checks (rows.Refused req reason ∷ [])) (rows.Refused req reason ∷ []) lawful;
+        lawful = lawful_pass (IsToCome None e (rows.Refused req reason ∷ [])) e (noted_by t.checks (rows.Refused req reason ∷ [])) (rows.Refused req reason ∷ []) lawful;
       }
     where
       now_is : now_of e (rows.Refused req reason ∷ []) ≡ n

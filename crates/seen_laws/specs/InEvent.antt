@@ -1,6 +1,6 @@
 -- An event in which the coordinator works: its own row, and the rows put out so far.
 -- This project's own.
-use Rattle.std.specs.Prelude.{◌≡◌, ℕ, Bool, true, false, not, ◌==◌, List, [], ◌∷◌, ◌++◌, map}
+use Rattle.std.specs.Prelude.{◌≡◌, ℕ, Bool, true, false, not, ◌&&◌, ◌==◌, List, [], ◌∷◌, ◌++◌, map}
 use Rattle.std.specs.List.{list_any, filter_map}
 use Rattle.tab_ids.specs.declared.ReqId.{ReqId}
 use Rattle.log_model.specs.declared.header.Header.{Header}
@@ -29,6 +29,8 @@ pub record InEvent : Type 0 where
   pub checking : ReqId → Bool
   -- what the rows before the cut owe: whether what the log comes to without questions as the event ends pays it
   pub due : Seen → Bool
+  -- what the rows before the cut want of the rows behind it, all of them taken together
+  pub wants : List LogRow → Bool
 
 -- a row of the event
 abbrev pub row_of : InEvent → RowKind → LogRow
@@ -54,9 +56,31 @@ later_of e out = map (row_of e) e.before ++ map (row_of e) out
 abbrev pub rows_of : InEvent → List RowKind → List LogRow
 rows_of e out = row_of e e.own ∷ later_of e out
 
--- the event cut behind these rows: what comes after goes by this `checking`, and they owe this
+-- the event, where this is wanted of the rows behind the cut
+abbrev pub wanting : InEvent → (List LogRow → Bool) → InEvent
+wanting e wants = record e { wants = wants }
+
+-- the event cut behind these rows: what comes after goes by this `checking`, they owe this, and of what comes after is wanted what was wanted of them and it
 abbrev pub cut : InEvent → List RowKind → (ReqId → Bool) → (Seen → Bool) → InEvent
-cut e out checking due = record e { before = e.before ++ out; checking = checking; due = due }
+cut e out checking due =
+    record e { before = e.before ++ out; checking = checking; due = due; wants = λ behind. e.wants (map (row_of e) out ++ behind) }
+
+-- so it is, and this is wanted of what comes after, too
+abbrev pub cut_wanting : InEvent → List RowKind → (ReqId → Bool) → (Seen → Bool) → (List LogRow → Bool) → InEvent
+cut_wanting e out checking due test =
+    wanting (cut e out checking due) (λ behind. test behind && e.wants (map (row_of e) out ++ behind))
+
+-- these rows and those that come later are as the rows before the cut want them
+abbrev pub AreAsWanted : InEvent → List RowKind → List LogRow → Type 0
+AreAsWanted e out later = e.wants (map (row_of e) out ++ later) ≡ true
+
+-- these are, and none comes later
+abbrev pub EndAsWanted : InEvent → List RowKind → Type 0
+EndAsWanted e out = e.wants (map (row_of e) out) ≡ true
+
+-- nothing is wanted: so it is where the event isn't cut
+abbrev pub WantsNothing : InEvent → Type 0
+WantsNothing e = (behind : List LogRow) → e.wants behind ≡ true
 
 -- what the log has come to by then
 abbrev pub log_of : InEvent → List RowKind → Seen

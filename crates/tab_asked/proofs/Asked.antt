@@ -1,4 +1,5 @@
 -- An event of the coordinator ends with a traversal that begins and asks: the coordinator stands for what the log would have come to had nobody been asked, with the traversal in its check, which holds the queue.
+use Rattle.tab_doors.proofs.Wanted.{come_end, wanted_end}
 use Rattle.asking_facts.proofs.ApartDue.{due_apart}
 use Rattle.asking_facts.proofs.Closing.{pass_asked}
 use Rattle.asking_facts.proofs.Known.{known_begun}
@@ -24,7 +25,7 @@ use Rattle.seen_facts.specs.Home.Homes.{AreHomed}
 use Rattle.seen_laws.proofs.Cuts.{later_cut, log_cut, rows_cut}
 use Rattle.seen_laws.proofs.InEvents.{now_is}
 use Rattle.seen_laws.specs.Blocks.{EachPass}
-use Rattle.seen_laws.specs.InEvent.{InEvent, IsPaid, IsTakenIn, later_of, log_of, now_of, rows_of, start_of}
+use Rattle.seen_laws.specs.InEvent.{EndAsWanted, InEvent, IsPaid, IsTakenIn, later_of, log_of, now_of, rows_of, start_of}
 use Rattle.seen_laws.specs.Unasked.{unasked}
 use Rattle.std.proofs.Common.{Bool, List, None, Option, Some, [], ap, append-nil, inl, inr, subst, sym, true, ◌++◌, ◌∙◌, ◌∷◌, ◌≡◌}
 use Rattle.std.specs.Prelude.{is_some, slice_get}
@@ -40,7 +41,7 @@ use Rattle.tab_asked.specs.Asked.{GoesOnAsking, MayAsk, entered_by, log_asked, t
 use Rattle.tab_asks.specs.Asks.{HasBegunAsking, HasBegunCheck}
 use Rattle.tab_cuts.proofs.Owed.{now_cut}
 use Rattle.tab_cuts.specs.Cut.{TiesCut}
-use Rattle.tab_doors.specs.Working.{IsAhead}
+use Rattle.tab_doors.specs.Working.{IsToCome}
 use Rattle.tab_doors.specs.declared.tables.Tables.{Tables}
 use Rattle.tab_facts.specs.Calm.Calm.{IsCalm}
 use Rattle.tab_facts.specs.Order.Orders.{IsOfCoord}
@@ -93,7 +94,7 @@ cut_tied s u ties =
       kept = ties.kept;
     }
 
-module _ (p : InPass) (out : List RowKind) (t : Tables) (queue : Queue) (blame : List (StateId × ReqId)) (cause : Why) (at : HasSettled p out t queue blame cause) (makes : MakesServe (now_of p.event out)) (sound : OrdersAreSound (now_of p.event out)) (of_coord : (row : RowKind) → Has out row → IsOfCoord row) (shows : AreShownUnder (log_of p.event [])) (known : AskingKnown (log_of p.event [])) (settled : IsAllTied (log_of p.event out) (told_all t.checks out)) (taken : IsTakenIn p.event (later_of p.event out)) (free : NoStepChecks p.event.checking (log_of p.event [])) (over : AsksFirst p.event out t.running queue.waiting) where
+module _ (p : InPass) (out : List RowKind) (t : Tables) (queue : Queue) (blame : List (StateId × ReqId)) (cause : Why) (at : HasSettled p out t queue blame cause) (makes : MakesServe (now_of p.event out)) (sound : OrdersAreSound (now_of p.event out)) (of_coord : (row : RowKind) → Has out row → IsOfCoord row) (shows : AreShownUnder (log_of p.event [])) (known : AskingKnown (log_of p.event [])) (settled : IsAllTied (log_of p.event out) (told_all t.checks out)) (taken : IsTakenIn p.event (later_of p.event out)) (free : NoStepChecks p.event.checking (log_of p.event [])) (over : AsksFirst p.event out t.running queue.waiting) (wanted : EndAsWanted p.event out) where
   abbrev e : InEvent
   e = p.event
 
@@ -122,7 +123,7 @@ module _ (p : InPass) (out : List RowKind) (t : Tables) (queue : Queue) (blame :
   -- as the tab has come to rest, without it
   before : HasActed check e out (record t { checks = told_all t.checks out }) queue blame
   before =
-      acted p out t queue blame cause true (λ held. over.idle) at makes sound of_coord shows known settled (λ never. absurd cc) taken
+      acted p out t queue blame cause true (λ held. over.idle) at makes sound of_coord shows known settled wanted (λ never. absurd cc) taken
 
   tab : IsTab t.running p.loads p.hand s
   tab = at.passing.going.tab
@@ -153,9 +154,9 @@ module _ (p : InPass) (out : List RowKind) (t : Tables) (queue : Queue) (blame :
   some : AreSome questions
   some = some_first questions over.first.asks
 
-  -- ---- it has begun, and asked
+  -- ---- it has begun, and asked; with these rows, too, all behind a cut is as those before it want it
 
-  module _ (new : List RowKind) (u : Tables) (asking : HasBegunAsking log req (Some goal) questions out new) (begun : HasBegunCheck out req questions t u) where
+  module _ (new : List RowKind) (u : Tables) (asking : HasBegunAsking log req (Some goal) questions out new) (begun : HasBegunCheck out req questions t u) (wanted_then : EndAsWanted p.event new) where
     abbrev jobs : List Job
     jobs = asking.jobs
 
@@ -200,8 +201,12 @@ module _ (p : InPass) (out : List RowKind) (t : Tables) (queue : Queue) (blame :
     passes : EachPass (start_of e) (rows_of e rows_then) []
     passes =
         subst (λ (l : List LogRow). EachPass (start_of e) l []) (rows_cut e rows_then entered then_.due [] ∙ ap (λ (l : List RowKind). rows_of e l) (append-nil rows_then))
-        (pass_asked (IsAhead None) then_ [] (record { checks = u.checks; run = [] }) goes.work.asked goes.work.lawful tt paid taken_then (λ has_. parked) noted)
+        (pass_asked (IsToCome None then_ []) then_ [] (record { checks = u.checks; run = [] }) goes.work.asked goes.work.lawful (come_end then_ [] ended) paid taken_then (λ has_. parked) noted)
       where
+        ended : EndAsWanted then_ []
+        ended =
+            wanted_end e rows_then (subst (λ (l : List RowKind). EndAsWanted e l) asking.rows wanted_then)
+
         paid : IsPaid then_ []
         paid = paid_log then_ [] goes.work (owed_paid then_ [] (goes.owed at.passing.owed))
 

@@ -1,4 +1,5 @@
 -- A request begins and asks, and the event is cut behind that: its coordinator goes on working, and what the rows so far owed is what is due.
+use Rattle.tab_doors.proofs.Wanted.{come_on}
 use Rattle.asking_facts.proofs.Begun.{block_log}
 use Rattle.asking_facts.proofs.Sent.{when_asked}
 use Rattle.asking_facts.proofs.Standing.{begun_stands}
@@ -31,7 +32,7 @@ use Rattle.tab_cuts.proofs.Works.{calm_beside, ties_beside, work_behind}
 use Rattle.tab_cuts.specs.Cut.{TiesCut}
 use Rattle.tab_doors.proofs.Works.{BeginsSole, soles_more}
 use Rattle.tab_doors.specs.Keeping.{Move}
-use Rattle.tab_doors.specs.Working.{IsAhead, IsAtWorkFor, next_shown}
+use Rattle.tab_doors.specs.Working.{IsAhead, IsAtWorkFor, IsToCome, next_shown}
 use Rattle.tab_doors.specs.declared.tables.Tables.{Tables}
 use Rattle.tab_ids.specs.declared.ReqId.{ReqId}
 use Rattle.tab_ids.specs.declared.Step.{Step}
@@ -100,7 +101,7 @@ begun_states e out req goal jobs =
 
 -- ---- a coordinator at work stands beside its checks
 
-pub stands_work : (move : Option Move) (but : ReqId → Bool) (e : InEvent) (out : List RowKind) (t : Tables) → IsAtWorkFor move e out t → NotesWanted (log_of e out) (told_by t.checks out).checks → StandsAsked (IsAhead move) but e out (told_by t.checks out)
+pub stands_work : (move : Option Move) (but : ReqId → Bool) (e : InEvent) (out : List RowKind) (t : Tables) → IsAtWorkFor move e out t → NotesWanted (log_of e out) (told_by t.checks out).checks → StandsAsked (IsToCome move e out) but e out (told_by t.checks out)
 stands_work move but e out t work notes =
     record {
       pass = work.lawful;
@@ -160,7 +161,7 @@ module _ (move : Option Move) (e : InEvent) (out : List RowKind) (t : Tables) (w
   module _ (u : Tables) (is : u ≡ counted (now_of e out) e.event behind.jobs behind.states move t u) (sent : length u.sent.items ≡ behind.jobs + 1) (states : u.states ≡ behind.states) (checks : u.checks ≡ checks_begun (told_by t.checks out) req questions) where
     pub work_begun : (notes : NotesWanted (log_of e out) (told_by t.checks out).checks) → AreSome questions → MayEnter q → list_any (begins req) (e.before ++ out) ≡ false → MayBeginTo (here_of e out) (row_of e (rows.Started req goal)) req goal q → IsNextState (log_of e out) (record { 0 = (log_of e out).states + 1 }) → (is_traversal q.what ≡ true → NoOtherUnderWay (log_of e out) req) → BeginsSole e out (rows.Started req goal) → IsAtWorkFor move then_begun [] u
     work_begun notes some may unbegun begin next goes_not begins_sole =
-        work_behind move e (out ++ block) entered (owes_seen e out) u nobody work.own work.worker work.numbered sole debts_begun stands (ties_begun u is sent states) (calm_beside (IsAhead move) then_begun [] (record { checks = u.checks; run = [] }) stands)
+        work_behind move e (out ++ block) entered (owes_seen e out) u nobody work.own work.worker work.numbered sole debts_begun stands (ties_begun u is sent states) (calm_beside (IsToCome move then_begun []) then_begun [] (record { checks = u.checks; run = [] }) stands)
       where
         nobody : ReqId → Bool
         nobody r = false
@@ -180,7 +181,7 @@ module _ (move : Option Move) (e : InEvent) (out : List RowKind) (t : Tables) (w
             by_move None there = tt
             by_move (Some m) there = asked_ahead e (log_of e out) req ((log_of e out).jobs + 1) questions jobs later are ∙ there
 
-        stands : StandsAsked (IsAhead move) nobody then_begun [] (record { checks = u.checks; run = [] })
+        stands : StandsAsked (IsToCome move then_begun []) nobody then_begun [] (record { checks = u.checks; run = [] })
         stands =
-            subst (λ (c : _). StandsAsked (IsAhead move) nobody then_begun [] (record { checks = c; run = [] })) (sym checks)
-            (begun_stands e out (told_by t.checks out) (IsAhead move) nobody (stands_work move nobody e out t work notes) work.calm req goal questions jobs q begins_ are some may work.own unbegun off (IsAhead move) entered (owes_seen e out) same on ahead begin next goes_not)
+            subst (λ (c : _). StandsAsked (IsToCome move then_begun []) nobody then_begun [] (record { checks = c; run = [] })) (sym checks)
+            (begun_stands e out (told_by t.checks out) (IsToCome move e out) nobody (stands_work move nobody e out t work notes) work.calm req goal questions jobs q begins_ are some may work.own unbegun off (IsToCome move then_begun []) entered (owes_seen e out) same on (λ later is. come_on move move e out block later (ahead later) is) begin next goes_not)

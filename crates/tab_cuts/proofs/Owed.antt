@@ -1,9 +1,10 @@
 -- What a cut event owes: each end pays it that pays what is due, and undoes nothing which the log without questions has by the checks that it goes on with.
+use Rattle.log_model.specs.declared.row_kind.LogRow.{LogRow}
 use Rattle.log_model.specs.Seen.{Seen}
 use Rattle.log_model.specs.declared.row_kind.RowKind.{RowKind}
 use Rattle.row_facts.specs.Owed.Owed.{IsLoose, IsOwed, Lasts, Stays}
 use Rattle.seen_laws.proofs.Cuts.{log_cut}
-use Rattle.seen_laws.specs.InEvent.{InEvent, cut, log_of, now_of}
+use Rattle.seen_laws.specs.InEvent.{InEvent, cut, log_of, now_of, wanting}
 use Rattle.std.proofs.Common.{Bool, List, [], ap, refl, subst, true, ◌≡◌}
 use Rattle.tab_ids.specs.declared.ReqId.{ReqId}
 use Rattle.unasked_dues.specs.Checking.{unasked}
@@ -22,3 +23,13 @@ module _ (e : InEvent) (out : List RowKind) (checking : ReqId → Bool) (due : S
 
   pub loose_cut : ((end : Seen) → Lasts (unasked checking (log_of e out)) end → due end ≡ true) → IsLoose then_ []
   loose_cut pays end lasts = rw (pays end (subst (λ (s : Seen). Lasts s end) now_cut lasts)) refl
+
+-- whatever is wanted of what comes after
+module _ (e : InEvent) (wants : List LogRow → Bool) where
+  pub owed_wanting : IsOwed e [] → IsOwed (wanting e wants) []
+  unfolding now_of
+  owed_wanting owed = owed
+
+  pub loose_wanting : IsLoose e [] → IsLoose (wanting e wants) []
+  unfolding now_of
+  loose_wanting loose = loose

@@ -15,7 +15,7 @@ use Rattle.tab_cuts.proofs.Works.{ties_beside, work_behind, work_cut}
 use Rattle.tab_cuts.specs.Cut.{TiesCut}
 use Rattle.tab_doors.proofs.Works.{soles_more}
 use Rattle.tab_doors.specs.Keeping.{Move}
-use Rattle.tab_doors.specs.Working.{IsAhead, IsAtWorkIn, IsCalmIn}
+use Rattle.tab_doors.specs.Working.{IsAtWorkIn, IsCalmIn, IsToCome}
 use Rattle.tab_doors.specs.declared.tables.Tables.{Tables}
 use Rattle.tab_ids.specs.declared.DocId.{DocId}
 use Rattle.tab_ids.specs.declared.ReqId.{ReqId}
@@ -56,7 +56,7 @@ module _ {sweeps : Bool} (move : Option Move) (e : InEvent) (out : List RowKind)
         kept = ties.kept;
       })
 
-  pub work_told : (but : ReqId → Bool) (u : Tables) → u ≡ record t { checks = u.checks } → StandsAsked (IsAhead move) but then_told [] (record { checks = u.checks; run = [] }) → {then_sweeps : Bool} → IsCalmIn then_sweeps e.checking (log_of then_told []) → IsAtWorkIn then_sweeps move then_told [] u
+  pub work_told : (but : ReqId → Bool) (u : Tables) → u ≡ record t { checks = u.checks } → StandsAsked (IsToCome move then_told []) but then_told [] (record { checks = u.checks; run = [] }) → {then_sweeps : Bool} → IsCalmIn then_sweeps e.checking (log_of then_told []) → IsAtWorkIn then_sweeps move then_told [] u
   work_told but u is stands calm =
       work_cut move e out e.checking (owes_seen e out) u but t work (debts_same e out work.numbered work.read work.debts) stands (ties_told u is) calm
 
@@ -105,6 +105,6 @@ module _ {sweeps : Bool} (move : Option Move) (e : InEvent) (out : List RowKind)
         states : u.states ≡ (log_of e out).states
         states = subst (λ (x : Tables). x.states ≡ (log_of e out).states) (sym is) work.holds.states
 
-    pub work_prompted : (but : ReqId → Bool) (u : Tables) → u ≡ record t { checks = u.checks } → e.checking req ≡ true → StandsAsked (IsAhead move) but then_prompted [] (record { checks = u.checks; run = [] }) → {then_sweeps : Bool} → IsCalmIn then_sweeps e.checking (log_of then_prompted []) → IsAtWorkIn then_sweeps move then_prompted [] u
+    pub work_prompted : (but : ReqId → Bool) (u : Tables) → u ≡ record t { checks = u.checks } → e.checking req ≡ true → StandsAsked (IsToCome move then_prompted []) but then_prompted [] (record { checks = u.checks; run = [] }) → {then_sweeps : Bool} → IsCalmIn then_sweeps e.checking (log_of then_prompted []) → IsAtWorkIn then_sweeps move then_prompted [] u
     work_prompted but u is on stands calm =
         work_behind move e (out ++ kind ∷ []) e.checking (owes_seen e out) u but work.own work.worker work.numbered (soles_more e out kind tt work.sole) debts_prompted stands (ties_prompted u is) calm

@@ -11,15 +11,15 @@ use Rattle.seen_laws.specs.InEvent.{Anything, InEvent, here_of, row_of}
 use Rattle.seen_laws.specs.Owing.{Pays}
 use Rattle.std.proofs.Common.{List, None, Option, Some, [], ap, refl, sym, ◌∷◌, ◌≡◌}
 use Rattle.tab_doors.specs.Keeping.{Move}
-use Rattle.tab_doors.specs.Working.{IsAhead, MaySend, shown_by}
+use Rattle.tab_doors.specs.Working.{IsAhead, IsToCome, MaySend, shown_by}
 use Rattle.tab_ids.specs.declared.DocId.{DocId}
 use Rattle.tab_ids.specs.declared.ReqId.{ReqId}
 use Rattle.log_model.specs.declared.row_kind.RowKind.TheVariants as rows
 
 -- a move may begin anywhere
-pub begin_move : (e : InEvent) (todo : ReqId → Option DocId) (out : List RowKind) (move : Move) → PassIf (IsAhead None) e todo out → PassIf (IsAhead (Some move)) e todo out
+pub begin_move : (e : InEvent) (todo : ReqId → Option DocId) (out : List RowKind) (move : Move) → PassIf (IsToCome None e out) e todo out → PassIf (IsToCome (Some move) e out) e todo out
 unfolding PassIf
-begin_move e todo out move pass later rest = pass later (rest.0, tt)
+begin_move e todo out move pass later rest = pass later (rest.0, (tt, rest.1.1))
 
 -- ---- one row more
 

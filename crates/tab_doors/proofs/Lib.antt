@@ -20,6 +20,7 @@ pub mod Changing
 pub mod EndLaws
 pub mod Destroying
 pub mod Takers
+pub mod Wanted
 pub mod Ahead
 pub mod Calm
 pub mod Works

@@ -10,6 +10,7 @@ use Rattle.unasked_dues.proofs.Read.{read_more}
 use Rattle.unasked_dues.proofs.Sole.{sole_more}
 use Rattle.unasked_dues.proofs.Shows.{passed_off}
 use Rattle.unasked_dues.specs.Checking.{IsAimed, IsForOther, IsMoving, NoStepChecks, NonePasses}
+use Rattle.checking_facts.proofs.Besides.{beside_ends, ends_more}
 use Rattle.checking_facts.proofs.Moving.{are_aimed, are_moving}
 use Rattle.checking_facts.proofs.Rows.{row_checks, row_steps}
 use Rattle.checking_facts.specs.Checks.{AreInCheck, BeginsOff, GoesDuly}
@@ -27,7 +28,8 @@ use Rattle.tab_doors.specs.Orders.{next_order, numbered_order, order_to, proc_at
 use Rattle.tab_doors.specs.Ties.{AreInitial, Holds, IsRunning, proc_in}
 use Rattle.tab_doors.proofs.Ahead.{IsStep}
 use Rattle.tab_doors.proofs.Calm.{row_calm}
-use Rattle.tab_doors.specs.Working.{HasGoal, IsAhead, IsAtWork, IsAtWorkFor, IsAtWorkIn, IsCalmIn, StartsPlain}
+use Rattle.tab_doors.proofs.Wanted.{come_on}
+use Rattle.tab_doors.specs.Working.{HasGoal, IsAhead, IsAtWork, IsAtWorkFor, IsAtWorkIn, IsCalmIn, IsToCome, StartsPlain}
 use Rattle.std.proofs.lemmas.List.Sums.{fold-append}
 use Rattle.unasked_dues.specs.Checking.{AllOthersPass}
 use Rattle.log_model.specs.Checks.{is_checked}
@@ -217,6 +219,7 @@ module _ {sweeps : Bool} {from : Option Move} (e : InEvent) (out : List RowKind)
         unheld = λ free.
             subst (λ (s : Seen). NoStepChecks e.checking s) (sym (log_more e out kind))
             (row_steps e.checking (log_of e out) (row_of e kind) (off_begins e.checking kind it.seen) duly (work.unheld free));
+        off = ends_more e.checking out kind work.off (beside_ends e.checking (log_of e out) kind beside);
         holds = subst (λ (s : Seen). Holds (look_of s u.running) u) (sym (now_more e out kind it.read)) holds;
         runs = subst (λ (s : Seen). IsRunning s.requests u.running) (sym (now_more e out kind it.read)) runs;
         goal = subst (λ (s : Seen). HasGoal s.requests u.running u.goal) (sym (now_more e out kind it.read)) goal;
@@ -225,7 +228,7 @@ module _ {sweeps : Bool} {from : Option Move} (e : InEvent) (out : List RowKind)
         loads = subst (λ (s : Seen). TiesLoads s u.loads) (sym (now_more e out kind it.read)) loads;
         kept = subst (λ (s : Seen). u.kept.states ≡ kept_in move u.kept.keep (kept_states s)) (sym (now_more e out kind it.read)) kept;
         asked = subst (λ (told : Told). AreAskedDuly e.checking e.start (log_of e (out ++ kind ∷ [])) told) (sym told_then) (subst (λ (s : Seen). AreAskedDuly e.checking e.start s (tell_row told kind)) (sym (log_more e out kind)) (more_duly e out told work.asked kind beside step.quiet step.held (IsAhead from) (IsAhead move) step.ahead passes));
-        lawful = subst (λ (x : Told). PassIf (IsAhead move) e (noted_in x) (out ++ kind ∷ [])) (sym told_then) (more_pass e out told work.asked kind beside step.quiet step.held (IsAhead from) (IsAhead move) step.ahead work.lawful step.may);
+        lawful = subst (λ (x : Told). PassIf (IsToCome move e (out ++ kind ∷ [])) e (noted_in x) (out ++ kind ∷ [])) (sym told_then) (more_pass e out told work.asked kind beside step.quiet step.held (IsToCome from e out) (IsToCome move e (out ++ kind ∷ [])) (λ later is. come_on from move e out (kind ∷ []) later (step.ahead later) is) work.lawful (λ later asks is prompts. step.may later asks is.0 prompts));
       }
     where
       told : Told

@@ -7,7 +7,7 @@ use Rattle.tab_doors.specs.Look.{Look, look_of}
 use Rattle.tab_doors.specs.Keeping.{Move, kept_in}
 use Rattle.tab_doors.specs.Ties.{AreInitial, Holds, IsRunning}
 use Rattle.tab_doors.specs.declared.tables.Tables.{Tables}
-use Rattle.checking_facts.specs.Prompts.{AreAskedDuly, PassIf, PromptsFor, noted_by, told_by}
+use Rattle.checking_facts.specs.Prompts.{AreAskedDuly, EachEndsOff, PassIf, PromptsFor, noted_by, told_by}
 use Rattle.unload_check.specs.Checks.{OpenCheck}
 use Rattle.seen_facts.specs.Kept.Keeping.{kept_states}
 use Rattle.seen_facts.specs.LoadTies.Tying.{TiesLoads}
@@ -18,7 +18,7 @@ use Rattle.log_model.specs.declared.row_kind.Actor.{Actor}
 use Rattle.log_model.specs.declared.row_kind.LogRow.{LogRow}
 use Rattle.log_model.specs.declared.row_kind.RowKind.{RowKind}
 use Rattle.seen_laws.specs.Blocks.{MayLog}
-use Rattle.seen_laws.specs.InEvent.{EachGoes, InEvent, here_of, log_of, now_of, row_of}
+use Rattle.seen_laws.specs.InEvent.{AreAsWanted, EachGoes, InEvent, here_of, log_of, now_of, row_of}
 use Rattle.seen_laws.specs.Sending.{leads}
 use Rattle.std.specs.Prelude.{Bool, List, None, Option, Some, [], false, length, true, ◌+◌, ◌∷◌, ◌≡◌, ◌≤◌}
 use Rattle.tab_ids.specs.declared.DocId.{DocId}
@@ -67,9 +67,13 @@ abbrev pub IsAhead : Option Move → List LogRow → Type 0
 IsAhead None later = Unit {0}
 IsAhead (Some move) later = next_shown later ≡ Some move.doc
 
--- the own row and those put out so far pass each test, whatever comes later, as long as it has what is ahead, and prompts as it is due by a table that had these checks before the first of them
+-- what is to come behind these rows: it has what is ahead, and with them it is as the rows before the cut want it
+abbrev pub IsToCome : Option Move → InEvent → List RowKind → List LogRow → Type 0
+IsToCome move e out later = IsAhead move later × AreAsWanted e out later
+
+-- the own row and those put out so far pass each test, whatever comes later, as long as it is what is to come, and prompts as it is due by a table that had these checks before the first of them
 abbrev pub AreLawfulFor : Option Move → InEvent → List (ReqId × OpenCheck) → List RowKind → Type 0
-AreLawfulFor move e checks out = PassIf (IsAhead move) e (noted_by checks out) out
+AreLawfulFor move e checks out = PassIf (IsToCome move e out) e (noted_by checks out) out
 
 -- the order may be sent here, as long as what comes later has what is ahead, and the prompts that the order makes due
 abbrev pub MaySend : Option Move → InEvent → List RowKind → Job → Type 0
@@ -105,6 +109,8 @@ pub record IsAtWorkIn (sweeps : Bool) (move : Option Move) (e : InEvent) (out : 
   pub checks : AreInCheck e.checking (log_of e out)
   pub calm : IsCalmIn sweeps e.checking (log_of e out)
   pub unheld : NoStepChecks e.checking (log_of e []) → NoStepChecks e.checking (log_of e out)
+  -- none of the rows ends a request in its check
+  pub off : EachEndsOff e.checking out
   pub holds : Holds (look_now e out t.running) t
   pub runs : IsRunning (now_of e out).requests t.running
   pub goal : HasGoal (now_of e out).requests t.running t.goal

@@ -62,6 +62,7 @@ begun_work e out t doc left states work is =
       checks = work.checks;
       calm = work.calm;
       unheld = work.unheld;
+      off = work.off;
       holds = record {
         navs = work.holds.navs;
         documents = work.holds.documents;

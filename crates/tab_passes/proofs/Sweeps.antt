@@ -21,6 +21,7 @@ module _ {sweeps : Bool} (p : InPass) (out : List RowKind) (t : Tables) (pass : 
         checks = pass.work.checks;
         calm = calm;
         unheld = pass.work.unheld;
+        off = pass.work.off;
         holds = pass.work.holds;
         runs = pass.work.runs;
         goal = pass.work.goal;

@@ -37,6 +37,7 @@ work_first e t at own worker tied =
       checks = at.logged.checking;
       calm = at.logged.calm;
       unheld = λ free. free;
+      off = λ row has. absurd has;
       holds = tied.holds;
       runs = tied.runs;
       goal = tied.goal;

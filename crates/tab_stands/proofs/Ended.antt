@@ -1,4 +1,5 @@
 -- An event of the coordinator ends as the tab has come to rest: the coordinator stands for what the log has come to, and each row passes.
+use Rattle.tab_doors.proofs.Wanted.{come_end}
 use Rattle.asking_facts.proofs.Closing.{pass_tied}
 use Rattle.asking_facts.specs.Known.{AskingKnown}
 use Rattle.asking_facts.specs.Noting.{IsAllTied}
@@ -26,12 +27,12 @@ use Rattle.tab_facts.specs.Order.Orders.{IsOfCoord}
 use Rattle.row_facts.proofs.Owed.Ends.{owed_paid}
 use Rattle.seen_facts.proofs.Rest.Seated.{all_has}
 use Rattle.seen_laws.specs.Blocks.{EachPass, Here}
-use Rattle.seen_laws.specs.InEvent.{InEvent, IsPaid, IsTakenIn, later_of, log_of, now_of, own_of, rows_of, start_of}
+use Rattle.seen_laws.specs.InEvent.{EndAsWanted, InEvent, IsPaid, IsTakenIn, later_of, log_of, now_of, own_of, rows_of, start_of}
 use Rattle.std.proofs.Common.{Bool, List, None, Option, Some, [], false, refl, subst, sym, true, ℕ, ◌==◌, ◌≡◌}
 use Rattle.std.specs.List.{list_all}
 use Rattle.std.specs.Prelude.{is_some, option_and_then}
 use Rattle.tab_doors.specs.PassedOn.{told_by}
-use Rattle.tab_doors.specs.Working.{IsAhead, IsAtWork}
+use Rattle.tab_doors.specs.Working.{IsToCome, IsAtWork}
 use Rattle.tab_doors.specs.declared.tables.Tables.{Tables}
 use Rattle.tab_facts.specs.TabEvents.Between.{IsBetweenChecks}
 use Rattle.tab_ids.specs.declared.DocId.{DocId}
@@ -139,7 +140,7 @@ as_stands check s t checks queue blame stands =
       parked = stands.parked;
     }
 
-module _ (p : InPass) (out : List RowKind) (t : Tables) (queue : Queue) (blame : List (StateId × ReqId)) (cause : Why) (waits : Bool) (alone : NoneRunsWhileHeld waits t.running) (at : HasSettled p out t queue blame cause) (makes : MakesServe (now_of p.event out)) (sound : OrdersAreSound (now_of p.event out)) (of_coord : (row : RowKind) → Has out row → IsOfCoord row) (shows : AreShownUnder (log_of p.event [])) (known : AskingKnown (log_of p.event [])) (settled : IsAllTied (log_of p.event out) (told_all t.checks out)) where
+module _ (p : InPass) (out : List RowKind) (t : Tables) (queue : Queue) (blame : List (StateId × ReqId)) (cause : Why) (waits : Bool) (alone : NoneRunsWhileHeld waits t.running) (at : HasSettled p out t queue blame cause) (makes : MakesServe (now_of p.event out)) (sound : OrdersAreSound (now_of p.event out)) (of_coord : (row : RowKind) → Has out row → IsOfCoord row) (shows : AreShownUnder (log_of p.event [])) (known : AskingKnown (log_of p.event [])) (settled : IsAllTied (log_of p.event out) (told_all t.checks out)) (wanted : EndAsWanted p.event out) where
   abbrev s : Seen
   s = now_of p.event out
 
@@ -173,10 +174,10 @@ module _ (p : InPass) (out : List RowKind) (t : Tables) (queue : Queue) (blame :
   paid : IsPaid p.event out
   paid = paid_log p.event out at.passing.work (owed_paid p.event out at.passing.owed)
 
-  -- each row passes, as each check that is settled has its prompt up
+  -- each row passes, as each check that is settled has its prompt up, and the rows are as those before the cut want them
   passes : IsTakenIn p.event (later_of p.event out) → EachPass (start_of p.event) (rows_of p.event out) []
   passes taken =
-      pass_tied (IsAhead None) p.event out (told_by t.checks out) at.passing.work.asked at.passing.work.lawful tt paid taken at.queueing.over settled
+      pass_tied (IsToCome None p.event out) p.event out (told_by t.checks out) at.passing.work.asked at.passing.work.lawful (come_end p.event out wanted) paid taken at.queueing.over settled
 
   -- what lasts of the log itself
   lasts_log : IsTakenIn p.event (later_of p.event out) → LastsInLog p.event.checking (log_of p.event out)

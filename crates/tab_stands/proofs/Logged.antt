@@ -29,7 +29,7 @@ use Rattle.tab_stands.proofs.EpochRows.{own_under, refused_under}
 use Rattle.tab_doors.proofs.PassedOn.{lawful_pass}
 use Rattle.tab_doors.proofs.Works.{start_here}
 use Rattle.tab_doors.specs.PassedOn.{noted_by}
-use Rattle.tab_doors.specs.Working.{IsAhead}
+use Rattle.tab_doors.specs.Working.{IsToCome}
 use Rattle.load_doors.specs.Logged.{IsLogged, IsOwnRead}
 use Rattle.log_model.specs.After.{after}
 use Rattle.row_facts.proofs.FrameRows.LawfulLaws.{lawful_legal}
@@ -55,7 +55,7 @@ module _ (e : InEvent) (aside : StartsUnasked e) where
 -- where the own row may be logged by itself
 pub with_lawful : (e : InEvent) (checks : List (ReqId × OpenCheck)) → IsLogged e checks → LastsInLog e.checking (log_of e []) → AreLegal e [] → HasLogged e checks
 with_lawful e checks logged lasts legal =
-    record { logged = logged; lasts = lasts; lawful = lawful_pass (IsAhead None) e (noted_by checks []) [] (lawful_legal e [] legal) }
+    record { logged = logged; lasts = lasts; lawful = lawful_pass (IsToCome None e []) e (noted_by checks []) [] (lawful_legal e [] legal) }
 
 -- ---- what lasts of the log, over an event's own row
 

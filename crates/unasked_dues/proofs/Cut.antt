@@ -7,7 +7,7 @@ use Rattle.row_facts.specs.Owed.Owed.{IsLoose, IsOwed, Lasts, Stays, owes_seen}
 use Rattle.seen_laws.proofs.Cuts.{log_cut}
 use Rattle.seen_laws.proofs.InEvents.{on_rows_append}
 use Rattle.seen_laws.specs.Blocks.{Here, on_rows}
-use Rattle.seen_laws.specs.InEvent.{InEvent, cut, first_of, later_of, now_of, own_of, row_of}
+use Rattle.seen_laws.specs.InEvent.{InEvent, cut, first_of, later_of, now_of, own_of, row_of, wanting}
 use Rattle.seen_laws.specs.Owing.{owes, owes_row}
 use Rattle.seen_laws.specs.Unasked.{unasked}
 use Rattle.std.proofs.Common.{Bool, List, Option, [], ap, append_assoc, map, refl, subst, sym, true, ◌++◌, ◌∙◌, ◌∷◌, ◌≡◌}
@@ -94,6 +94,28 @@ module _ (e : InEvent) (out : List RowKind) (checking : ReqId → Bool) (due : S
       parts : (end : Seen) → AreSole then_ (own_of then_) (e.before ++ out) end → BeginSole e out end
       parts end are =
           record { old = first_sole e (own_of e) e.before out end (as_was end are); new = second_sole e (own_of e) e.before out end (as_was end are) }
+
+-- ---- whatever is wanted of the rows behind the cut
+
+module _ (e : InEvent) (wants : List LogRow → Bool) where
+  abbrev wanting_so : InEvent
+  wanting_so = wanting e wants
+
+  sole_so : (from : Here) (kinds : List RowKind) (end : Seen) → AreSole e from kinds end → AreSole wanting_so from kinds end
+  sole_so from kinds end are = record { each = λ before later req goal is. are.each before later req goal is }
+
+  sole_was : (from : Here) (kinds : List RowKind) (end : Seen) → AreSole wanting_so from kinds end → AreSole e from kinds end
+  sole_was from kinds end are = record { each = λ before later req goal is. are.each before later req goal is }
+
+  -- the loads that began are the only ones of their navigables
+  pub sole_wanting : (out : List RowKind) (end : Seen) → BeginSole e out end → BeginSole wanting_so out end
+  sole_wanting out end sole =
+      record { old = sole_so (own_of e) e.before end sole.old; new = sole_so (first_of e) out end sole.new }
+
+  -- and what the rows before it owe is paid
+  pub debts_wanting : AreDebts e → AreDebts wanting_so
+  debts_wanting debts =
+      record { paid = λ end aimed others sole is. debts.paid end aimed others (sole_was (own_of e) e.before end sole) is }
 
 -- ---- where it goes on by the same checks
 

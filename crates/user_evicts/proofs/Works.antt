@@ -1,6 +1,7 @@
 -- The document that the user evicts is discarded by the first row that is put out, and the coordinator is at work then.
 use Rattle.tab_doors.proofs.PassedOn.{debts_own, read_more, read_own, sole_own}
 use Rattle.unasked.proofs.Nows.{sent_now, sent_goes}
+use Rattle.checking_facts.proofs.Besides.{ends_more}
 use Rattle.checking_facts.proofs.Cases.{other_wakes}
 use Rattle.checking_facts.proofs.Rows.{row_checks}
 use Rattle.checking_facts.specs.Checks.{AreInCheck}
@@ -41,7 +42,7 @@ use Rattle.tab_doors.specs.Look.{look_of, sight}
 use Rattle.tab_doors.proofs.Whose.{proc_known, proc_same}
 use Rattle.tab_doors.specs.Orders.{numbered_order, order_to, proc_at}
 use Rattle.tab_doors.specs.Ties.{AreInitial, Holds, IsRunning, proc_in}
-use Rattle.tab_doors.specs.Working.{HasGoal, IsAhead, IsAtWork, IsWorker}
+use Rattle.tab_doors.specs.Working.{HasGoal, IsAhead, IsAtWork, IsToCome, IsWorker}
 use Rattle.tab_doors.specs.declared.tables.Tables.{Tables}
 use Rattle.tab_ids.specs.declared.DocId.{DocId}
 use Rattle.std.specs.Option.{IsSome}
@@ -85,6 +86,7 @@ module _ (e : InEvent) (t u : Tables) (doc : DocId) (state : StateId) (tied : Ar
         checks = checks_;
         calm = steps_calm e.checking (log_of e (rows.Sent order ∷ [])) (none_steps e.checking its.aside.unchecked (log_of e (rows.Sent order ∷ [])));
         unheld = λ free. none_steps e.checking its.aside.unchecked (log_of e (rows.Sent order ∷ []));
+        off = ends_more e.checking [] (rows.Sent order) (λ row has. absurd has) tt;
         holds = subst (λ (x : Seen). Holds (look_of x u.running) u) now_then (subst (λ (r : Option ReqId). Holds (look_of then_ r) u) (sym running) (discard_holds n t.running e.event e.actor (proc_at n doc) doc whys.Evict state [] t tied.holds tied.runs its.gone.are its.gone.its_state its.gone.its u tree one));
         runs = subst (λ (x : Seen). IsRunning x.requests u.running) now_then (runs_on n.requests then_.requests t u (served_same is_run n order tasks.Discard whys.Evict (λ q. refl)) running tied.runs);
         goal = subst (λ (x : Seen). HasGoal x.requests u.running u.goal) now_then (goal_on n.requests then_.requests t u (served_same goal_read n order tasks.Discard whys.Evict (λ q. refl)) running goal tied.goal);
@@ -93,7 +95,7 @@ module _ (e : InEvent) (t u : Tables) (doc : DocId) (state : StateId) (tied : Ar
         loads = subst (λ (x : Seen). TiesLoads x u.loads) now_then (subst (λ (l : List Load). TiesLoads then_ l) (sym one.loads) (gone_tied n e.event e.actor t.loads tied.loads order refl unloaded));
         kept = kept_gone n doc (λ (x : Document). record x { is_discarded = true }) (λ x. refl) (λ x. refl) state its.own_state None t.kept u.kept tied.kept refl kept ∙ ap (λ (x : Seen). kept_states x) now_then;
         asked = asked_then one.checks;
-        lawful = lawful_pass (IsAhead None) e (noted_by u.checks (rows.Sent order ∷ [])) (rows.Sent order ∷ []) (evicted_lawful e t doc state its);
+        lawful = lawful_pass (IsToCome None e (rows.Sent order ∷ [])) e (noted_by u.checks (rows.Sent order ∷ [])) (rows.Sent order ∷ []) (evicted_lawful e t doc state its);
       }
     where
       checks_ : AreInCheck e.checking (log_of e (rows.Sent order ∷ []))
