@@ -1,4 +1,5 @@
 -- The event was cut behind the prompts: what is known of its checks is so anew, by the told table.
+use Rattle.checking_facts.specs.Prompts.{EndsOff}
 use Rattle.asking_facts.proofs.Unanswered.{unanswered_row}
 use Rattle.asking_facts.proofs.Waiting.{asks_of, plain_asks}
 use Rattle.asking_facts.specs.Prompting.{AnswersPrompt, NoneAnsweredEarly}
@@ -6,7 +7,7 @@ use Rattle.check_facts.proofs.Gones.{row_gone}
 use Rattle.check_facts.proofs.Rows.{applied_plain, dropped_plain, plain_of, refused_plain, sent_plain, settled_more, started_plain}
 use Rattle.check_facts.specs.Rows as checked
 use Rattle.log_model.specs.After.{after}
-use Rattle.log_model.specs.Places.{all_asked, is_gone, is_settled_asking}
+use Rattle.log_model.specs.Places.{all_asked, is_gone, is_settled_asking, is_traversal}
 use Rattle.log_model.specs.Seen.{Asked, Asking, Seen, request_of}
 use Rattle.log_model.specs.declared.row_kind.RowKind.TheVariants as rows
 use Rattle.log_model.specs.declared.row_kind.RowKind.{RowKind}
@@ -24,11 +25,11 @@ use Rattle.tab_doors.specs.declared.tables.Tables.{Tables}
 use Rattle.tab_ids.specs.declared.DocId.{DocId}
 use Rattle.tab_ids.specs.declared.ReqId.{ReqId}
 use Rattle.tab_prompts.proofs.Dues.{there_rows}
-use Rattle.tab_prompts.proofs.Settled.{AgreesLater, IsNotedFor, cut_calm, cut_stands, prompts, then_, then_told}
+use Rattle.tab_prompts.proofs.Settled.{IsNotedFor, cut_calm, cut_stands, prompts, then_, then_told}
 use Rattle.tab_prompts.proofs.Since.{finished_since, no_question, rows_keep}
 use Rattle.tab_prompts.proofs.Tables.{GoesAt, goes_told}
 use Rattle.tab_prompts.proofs.Works.{prompts_are, prompts_keep}
-use Rattle.tab_prompts.specs.Asking.{AreApart, BeginsAsked, EndsOff, WasOpen, are_unheard}
+use Rattle.tab_prompts.specs.Asking.{AreApart, BeginsAsked, WasOpen, are_unheard}
 use Rattle.tab_prompts.specs.Prompts.{is_settled_in, is_waiting}
 use Rattle.unload_check.specs.Checks.{OpenCheck, check_of}
 
@@ -74,25 +75,25 @@ module _ (first : Seen) (e : InEvent) where
 
 -- ---- the cut
 
-module _ {sweeps : Bool} (move : Option Move) (e : InEvent) (out : List RowKind) (t : Tables) (work : IsAtWorkIn sweeps move e out t) (begins : BeginsAsked e t.checks) (ends : (row : RowKind) → Has out row → EndsOff e.checking row) (waited : List ReqId) (apart : AreApart waited) (waits : (req : ReqId) → Has waited req → is_waiting t.checks req ≡ true) (agrees : AgreesLater move e out t work begins ends waited apart waits) where
+module _ {sweeps : Bool} (move : Option Move) (e : InEvent) (out : List RowKind) (t : Tables) (work : IsAtWorkIn sweeps move e out t) (begins : BeginsAsked e t.checks) (waited : List ReqId) (apart : AreApart waited) (waits : (req : ReqId) → Has waited req → is_waiting t.checks req ≡ true) where
   abbrev first : Seen
   first = log_of e []
 
   abbrev told_then : List (ReqId × OpenCheck)
-  told_then = then_told move e out t work begins ends
+  told_then = then_told move e out t work begins
 
   abbrev asking : List RowKind
-  asking = prompts move e out t work begins ends waited apart waits
+  asking = prompts move e out t work begins waited apart waits
 
   abbrev pub cut_then : InEvent
-  cut_then = then_ move e out t work begins ends waited apart waits agrees
+  cut_then = then_ move e out t work begins waited apart waits
 
   abbrev last : Seen
   last = log_of e (out ++ asking)
 
   since : Since first last
   since =
-      prompts_keep (Since first) e (since_prompt first e) asking out (prompts_are told_then waited) (rows_keep (Since first) e (since_row first e) [] out (first_of e) work.goes ends (record { asks = λ r. refl; gone = λ doc is. is; unanswered = begins.unanswered }))
+      prompts_keep (Since first) e (since_prompt first e) asking out (prompts_are told_then waited) (rows_keep (Since first) e (since_row first e) [] out (first_of e) work.goes work.off (record { asks = λ r. refl; gone = λ doc is. is; unanswered = begins.unanswered }))
 
   at_cut : (P : Seen → Type 0) → P last → P (log_of cut_then [])
   at_cut P is = subst P (sym (log_cut e (out ++ asking) e.checking (owes_seen e out))) is
@@ -132,15 +133,15 @@ module _ {sweeps : Bool} (move : Option Move) (e : InEvent) (out : List RowKind)
 
   finished_last : last.just_finished ≡ None
   finished_last =
-      prompts_keep (λ s. s.just_finished ≡ None) e (λ s req doc is. refl) asking out (prompts_are told_then waited) (finished_since e out work.goes ends begins.finished)
+      prompts_keep (λ s. s.just_finished ≡ None) e (λ s req doc is. refl) asking out (prompts_are told_then waited) (finished_since e out work.goes work.off begins.finished)
 
   -- so the event goes on as one that began
-  pub begins_again : ((req : ReqId) → is_waiting t.checks req ≡ true → Has waited req) → ((req : ReqId) → Has waited req → is_settled_in told_then req ≡ true → IsNotedFor told_then req) → BeginsAsked cut_then told_then
+  pub begins_again : ((req : ReqId) → is_waiting t.checks req ≡ true → Has waited req) → ((req : ReqId) (q : Asked) → request_of (log_of cut_then []) req ≡ Some q → is_traversal q.what ≡ true → Has waited req → is_settled_in told_then req ≡ true → IsNotedFor told_then req) → BeginsAsked cut_then told_then
   begins_again all noted =
-      let stands = cut_stands move e out t work begins ends waited apart waits agrees in
+      let stands = cut_stands move e out t work begins waited apart waits in
       record {
         asked = stands.asked;
-        calm = cut_calm move e out t work begins ends waited apart waits agrees all noted;
+        calm = cut_calm move e out t work begins waited apart waits all noted;
         notes = stands.notes;
         unanswered = at_cut NoneAnsweredEarly since.unanswered;
         opens = at_cut (λ s. (req : ReqId) (q : Asked) → request_of s req ≡ Some q → all_asked s q ≡ false → WasOpen e.start req ⊎ (are_unheard q.asks ≡ true)) opens;

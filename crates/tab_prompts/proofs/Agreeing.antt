@@ -1,6 +1,5 @@
--- What comes later agrees with what the told table notes: whatever it is, where the last run noted nothing; or where its first row ends that run.
+-- What is noted as the table is told is what is due still once the user was asked; and where no run lasts nothing is noted by it.
 use Rattle.asking_facts.proofs.Ones.{told_none}
-use Rattle.asking_facts.specs.Noting.{Agreed}
 use Rattle.check_facts.proofs.Notings.{ran_more}
 use Rattle.check_facts.specs.Prompting.{AgreesNow, none_ran, todo_of}
 use Rattle.checking_facts.proofs.Tellings.{runs_now, told_agrees}
@@ -9,13 +8,12 @@ use Rattle.log_model.specs.After.{after}
 use Rattle.log_model.specs.Checks.{due_prompt}
 use Rattle.log_model.specs.Seen.{Asked, Asking, Seen}
 use Rattle.log_model.specs.declared.outcome.Ending.{Ending}
-use Rattle.log_model.specs.declared.row_kind.LogRow.{LogRow}
 use Rattle.log_model.specs.declared.row_kind.RowKind.TheVariants as rows
 use Rattle.log_model.specs.declared.row_kind.RowKind.{RowKind}
 use Rattle.seen_facts.proofs.Each.Courses.{was_asked}
 use Rattle.seen_facts.proofs.Request.Readers.{SameReads, on_read}
 use Rattle.seen_laws.specs.InEvent.{InEvent, log_of, row_of}
-use Rattle.std.proofs.Common.{Bool, List, None, Option, Some, [], ap, false, refl, sym, true, ◌&&◌, ◌++◌, ◌∙◌, ◌≡◌}
+use Rattle.std.proofs.Common.{Bool, List, None, Option, Some, [], ap, false, refl, sym, ◌&&◌, ◌++◌, ◌∙◌, ◌≡◌}
 use Rattle.std.specs.Prelude.{is_none, is_some}
 use Rattle.tab_ids.specs.declared.DocId.{DocId}
 use Rattle.tab_ids.specs.declared.ReqId.{ReqId}
@@ -23,13 +21,7 @@ use Rattle.tab_prompts.proofs.Works.{prompts_keep}
 use Rattle.tab_prompts.specs.Asking.{ArePrompts}
 use Rattle.unload_check.specs.Checks.{OpenCheck, after_all_deaths}
 
--- ---- nothing was noted by the last run
-
-pub agreed_quiet : (todo : ReqId → Option DocId) (ran : ReqId → Bool) (e : InEvent) (out : List RowKind) (Rest : List LogRow → Type 0) → ((req : ReqId) → ran req ≡ false) → (later : List LogRow) → Rest later → Agreed todo ran e out Rest later
-agreed_quiet todo ran e out Rest quiet later rest =
-    (λ req q at is. (let never : true ≡ false = sym is ∙ quiet req in absurd cc), rest)
-
--- so it is where none lasts
+-- where no run lasts, nothing was noted by it
 pub ended_quiet : (told : Told) → told.run ≡ [] → (req : ReqId) → ran_more none_ran (todo_of told.checks) (todo_of (after_all_deaths told.run told.checks)) req ≡ false
 ended_quiet told ended req =
     ap (λ (run : List DocId). ran_more none_ran (todo_of told.checks) (todo_of (after_all_deaths run told.checks)) req) ended

@@ -23,7 +23,7 @@ use Rattle.tab_ids.specs.declared.ReqId.{ReqId}
 use Rattle.tab_prompts.proofs.Since.{Course, course_of}
 use Rattle.tab_prompts.proofs.Tables.{wants_in}
 use Rattle.tab_prompts.proofs.Told.{IsNoted, first_open, held_now, heard_wanted, noted, said_now, tied_is, tied_open, tied_settled, told, was}
-use Rattle.tab_prompts.specs.Asking.{BeginsAsked, EachIsDue, EndsOff, IsPromptDue, WasOpen, are_unheard}
+use Rattle.tab_prompts.specs.Asking.{BeginsAsked, EachIsDue, IsPromptDue, WasOpen, are_unheard}
 use Rattle.tab_prompts.specs.Prompts.{is_open, is_waiting}
 use Rattle.unload_check.specs.Checks as table
 use Rattle.unload_check.specs.Checks.{OpenCheck, check_of, is_settled, outcome_of}
@@ -66,7 +66,7 @@ waiting_open es req c has waits = by_settled (is_settled c) refl
 
 -- ---- the prompt is due
 
-module _ {sweeps : Bool} (move : Option Move) (e : InEvent) (out : List RowKind) (t : Tables) (work : IsAtWorkIn sweeps move e out t) (begins : BeginsAsked e t.checks) (ends : (row : RowKind) → Has out row → EndsOff e.checking row) where
+module _ {sweeps : Bool} (move : Option Move) (e : InEvent) (out : List RowKind) (t : Tables) (work : IsAtWorkIn sweeps move e out t) (begins : BeginsAsked e t.checks) where
   abbrev now : Seen
   now = log_of e out
 
@@ -74,14 +74,14 @@ module _ {sweeps : Bool} (move : Option Move) (e : InEvent) (out : List RowKind)
   first = log_of e []
 
   abbrev then_told : List (ReqId × OpenCheck)
-  then_told = told move e out t work begins ends
+  then_told = told move e out t work begins
 
   module _ (req : ReqId) (doc : DocId) (waits : is_waiting t.checks req ≡ true) (notes : todo_of then_told req ≡ Some doc) where
     abbrev Noted : Type 0
-    Noted = IsNoted move e out t work begins ends req doc
+    Noted = IsNoted move e out t work begins req doc
 
     its : Noted
-    its = noted move e out t work begins ends req doc notes
+    its = noted move e out t work begins req doc notes
 
     un : is_settled its.c ≡ false
     un = waiting_open t.checks req its.c its.has waits
@@ -103,7 +103,7 @@ module _ {sweeps : Bool} (move : Option Move) (e : InEvent) (out : List RowKind)
     q = still.0
 
     p_was : (p : Asked) × (request_of first req ≡ Some p) × (course_of p ≡ course_of q)
-    p_was = was move e out t work begins ends req q still.1 its.on
+    p_was = was move e out t work begins req q still.1 its.on
 
     abbrev p : Asked
     p = p_was.0
@@ -113,7 +113,7 @@ module _ {sweeps : Bool} (move : Option Move) (e : InEvent) (out : List RowKind)
 
     -- a question was open
     tied : AreTiedAt first (Some p) (Some its.c)
-    tied = first_open move e out t work begins ends req p its.c p_was.1 its.has un
+    tied = first_open move e out t work begins req p its.c p_was.1 its.has un
 
     opened : all_asked first p ≡ false
     opened = tied_open first p its.c tied un
@@ -132,12 +132,12 @@ module _ {sweeps : Bool} (move : Option Move) (e : InEvent) (out : List RowKind)
 
     -- now none is
     all_now : all_asked now q ≡ true
-    all_now = by_held (held_now move e out t work begins ends req q still.1)
+    all_now = by_held (held_now move e out t work begins req q still.1)
       where
         by_held : IsHeld now then_told req q → all_asked now q ≡ true
         by_held (inr both) = both.0
         by_held (inl tied_) =
-            tied_settled now q its.x (subst (λ (o : Option OpenCheck). AreTiedAt now (Some q) o) its.has_now tied_) (said_now move e out t work begins ends) req still.1 its.settled
+            tied_settled now q its.x (subst (λ (o : Option OpenCheck). AreTiedAt now (Some q) o) its.has_now tied_) (said_now move e out t work begins) req still.1 its.settled
 
     has_asks : is_asked p.asks ≡ true
     has_asks = by_asks p.asks refl

@@ -7,8 +7,10 @@ pub mod Prompted
 pub mod Works
 pub mod Agreeing
 pub mod Lowest
+pub mod Sparing
 pub mod Settled
 pub mod Ready
 pub mod Resumed
+pub mod Waited
 pub mod Begins
 pub mod Again

@@ -1,17 +1,13 @@
--- The document for whose sake the user is to be asked stays the same as others go: so what comes later agrees with what is noted, where no document that is noted goes in the run that lasts.
-use Rattle.check_facts.proofs.Gones.{run_gone}
-use Rattle.check_facts.specs.Prompting.{Agrees, AgreesNow, run_end}
+-- The document for whose sake the user is to be asked is there, and stays the same as others go.
 use Rattle.log_model.specs.Checks.{due_prompt, lower_doc, prompting}
 use Rattle.log_model.specs.Equal.{holds}
 use Rattle.log_model.specs.Outcomes.{is_drop}
 use Rattle.log_model.specs.Places.{is_gone}
 use Rattle.log_model.specs.Seen.{Asked, Seen}
-use Rattle.log_model.specs.declared.row_kind.LogRow.{LogRow}
 use Rattle.std.proofs.Common.{Bool, List, None, Option, Some, [], ap, arith, false, filter, not, refl, subst, sym, true, ℕ, ◌==◌, ◌∙◌, ◌∷◌, ◌≡◌}
 use Rattle.std.proofs.lemmas.Bool.Decides.{nat_tests}
 use Rattle.std.specs.Prelude.{fold, if◌then◌else◌, nat_lt}
 use Rattle.tab_ids.specs.declared.DocId.{DocId}
-use Rattle.tab_ids.specs.declared.ReqId.{ReqId}
 
 some_same : {A : Type 0} {a b : A} → (let o : Option A = Some a in o) ≡ Some b → a ≡ b
 some_same is = cc
@@ -117,8 +113,31 @@ due_stays s t q d gone there is = by_drop (holds is_drop q.ending) is
     by_drop false at =
         lowest_stays d (λ doc. not (is_gone s doc)) (λ doc. not (is_gone t doc)) fewer (ap not there) _ at
 
--- so what comes later agrees with what is noted, where no document that is noted is gone as the run ends
-pub agrees_while : (todo : ReqId → Option DocId) (ran : ReqId → Bool) (now : Seen) (later : List LogRow) → AgreesNow todo ran now → ((req : ReqId) → ran req ≡ true → (doc : DocId) × (todo req ≡ Some doc) × (is_gone (run_end now later) doc ≡ false)) → Agrees todo ran now later
-agrees_while todo ran now later agrees stays req q at is =
-    let its = stays req is in
-    due_stays now (run_end now later) q its.0 (run_gone now later) its.2 (agrees req q at is ∙ its.1) ∙ sym its.1
+-- and its document is there
+lowest_passes : (p : DocId → Bool) (d : DocId) (xs : List DocId) (a : Option DocId) → ((x : DocId) → a ≡ Some x → p x ≡ true) → fold lower_doc a (filter p xs) ≡ Some d → p d ≡ true
+lowest_passes p d [] a passes is = passes d is
+lowest_passes p d (x ∷ xs) a passes is = by_test (p x) refl is (lowest_passes p d xs)
+  where
+    lower : p x ≡ true → (b : Option DocId) → a ≡ b → (y : DocId) → lower_doc b x ≡ Some y → p y ≡ true
+    lower on None at y same = subst (λ (z : DocId). p z ≡ true) (some_same same) on
+    lower on (Some b) at y same = by_less (nat_lt x.0 b.0) same
+      where
+        by_less : (l : Bool) → (if l then Some x else Some b) ≡ Some y → p y ≡ true
+        by_less true e = subst (λ (z : DocId). p z ≡ true) (some_same e) on
+        by_less false e = passes y (at ∙ e)
+
+    by_test : (t : Bool) → p x ≡ t → fold lower_doc a (if t then x ∷ filter p xs else filter p xs) ≡ Some d → ((b : Option DocId) → ((y : DocId) → b ≡ Some y → p y ≡ true) → fold lower_doc b (filter p xs) ≡ Some d → p d ≡ true) → p d ≡ true
+    by_test true on at rest = rest (lower_doc a x) (lower on a refl) at
+    by_test false off at rest = rest a passes at
+
+pub due_there : (s : Seen) (q : Asked) (d : DocId) → due_prompt s q ≡ Some d → is_gone s d ≡ false
+due_there s q d is = by_drop (holds is_drop q.ending) is
+  where
+    out_of : (b : Bool) → not b ≡ true → b ≡ false
+    out_of false e = refl
+    out_of true e = absurd cc
+
+    by_drop : (b : Bool) → (if b then None else fold lower_doc None (prompting s q)) ≡ Some d → is_gone s d ≡ false
+    by_drop true at = absurd cc
+    by_drop false at =
+        out_of (is_gone s d) (lowest_passes (λ doc. not (is_gone s doc)) d _ None (λ x never_. absurd cc) at)

@@ -65,12 +65,12 @@ due_on e s table req other doc its apart is =
       on = is.on;
     }
 
--- ---- one after the other
+-- ---- one after the other, where what comes later is to have something by the rows so far
 
-module _ (e : InEvent) (table : List (ReqId × OpenCheck)) (ran : ReqId → Bool) (Rest : List LogRow → Type 0) (led : leads e.own ≡ true) (ahead : (req : ReqId) (doc : DocId) (later : List LogRow) → Rest later → Rest (row_of e (rows.Prompted req doc) ∷ later)) where
+module _ (e : InEvent) (table : List (ReqId × OpenCheck)) (ran : ReqId → Bool) (Rest : List RowKind → List LogRow → Type 0) (led : leads e.own ≡ true) (ahead : (out : List RowKind) (req : ReqId) (doc : DocId) (later : List LogRow) → Rest (out ++ rows.Prompted req doc ∷ []) later → Rest out (row_of e (rows.Prompted req doc) ∷ later)) where
   abbrev pub Stands : (ReqId → Bool) → List RowKind → Type 0
   Stands but out =
-      StandsAsked (Agreed (todo_of table) ran e out Rest) but e out (record { checks = table; run = [] })
+      StandsAsked (Agreed (todo_of table) ran e out (Rest out)) but e out (record { checks = table; run = [] })
 
   abbrev IsDue : List RowKind → ReqId → DocId → Type 0
   IsDue out req doc = IsPromptDue e.checking e.start (log_of e out) table req doc
@@ -94,13 +94,13 @@ module _ (e : InEvent) (table : List (ReqId × OpenCheck)) (ran : ReqId → Bool
       more = out ++ rows.Prompted req doc ∷ []
 
       Before : List LogRow → Type 0
-      Before = Agreed (todo_of table) ran e out Rest
+      Before = Agreed (todo_of table) ran e out (Rest out)
 
       Next : List LogRow → Type 0
-      Next = Agreed (todo_of table) ran e (out ++ rows.Prompted req doc ∷ []) Rest
+      Next = Agreed (todo_of table) ran e more (Rest more)
 
       ahead_ : (later : List LogRow) → Next later → Before (row_of e (rows.Prompted req doc) ∷ later)
-      ahead_ = agreed_prompt (todo_of table) ran e out Rest Rest req doc (ahead req doc)
+      ahead_ = agreed_prompt (todo_of table) ran e out (Rest out) (Rest more) req doc (ahead out req doc)
 
       nothing : Seen → Bool
       nothing s = true

@@ -24,7 +24,7 @@ use Rattle.seen_laws.proofs.InEvents.{later_more}
 use Rattle.seen_laws.specs.InEvent.{InEvent, later_of, log_of, now_of, row_of}
 use Rattle.std.proofs.Common.{Bool, List, None, Some, [], ap, append-nil, false, length, map, refl, subst, sym, ◌++◌, ◌||◌, ◌∙◌, ◌∷◌, ◌≡◌, ◌≤◌, ◌⊎◌}
 use Rattle.std.specs.List.{list_any}
-use Rattle.tab_doors.specs.Working.{IsAhead, IsCalmIn, MayDiscardIn}
+use Rattle.tab_doors.specs.Working.{IsCalmIn, IsToCome, MayDiscardIn}
 use Rattle.tab_doors.specs.declared.tables.Tables.{Tables}
 use Rattle.tab_facts.specs.FrameTab.Asking.{NoneHeld}
 use Rattle.tab_ids.specs.declared.DocId.{DocId}
@@ -59,12 +59,12 @@ steps_prompt checking e s req doc none r q at on =
 
 -- ---- the event is cut behind them
 
-module _ {sweeps : Bool} (p : InPass) (out : List RowKind) (t : Tables) (queue : Queue) (blame : List (StateId × ReqId)) (cause : Why) (ready : IsReadyIn sweeps p out t queue blame cause) (checks : List (ReqId × OpenCheck)) (more : List RowKind) (are : ArePrompts more) (finished : (log_of p.event out).just_finished ≡ None) where
+module _ {sweeps : Bool} (p : InPass) (out : List RowKind) (t : Tables) (queue : Queue) (blame : List (StateId × ReqId)) (cause : Why) (ready : IsReadyIn sweeps p out t queue blame cause) (checks : List (ReqId × OpenCheck)) (more : List RowKind) (are : ArePrompts more) (finished : (log_of p.event out).just_finished ≡ None) (test : List LogRow → Bool) where
   abbrev e : InEvent
   e = p.event
 
   abbrev pub then_ : InEvent
-  then_ = then_prompted e out more are finished
+  then_ = then_prompted e out more are finished test
 
   abbrev pub pass_then : InPass
   pass_then = record p { event = then_ }
@@ -80,7 +80,7 @@ module _ {sweeps : Bool} (p : InPass) (out : List RowKind) (t : Tables) (queue :
 
   -- the log without questions is as it was
   same : n ≡ s
-  same = same_prompted e out more are finished
+  same = same_prompted e out more are finished test
 
   -- so is what is known of it
   over : (P : Seen → Type 0) → P s → P n
@@ -150,15 +150,15 @@ module _ {sweeps : Bool} (p : InPass) (out : List RowKind) (t : Tables) (queue :
 
   -- ---- the coordinator goes on, as the table stands beside the log
 
-  module _ (but : ReqId → Bool) (stands : StandsAsked (IsAhead None) but then_ [] (record { checks = checks; run = [] })) {then_sweeps : Bool} (calm : IsCalmIn then_sweeps e.checking (log_of then_ [])) where
+  module _ (but : ReqId → Bool) (stands : StandsAsked (IsToCome None then_ []) but then_ [] (record { checks = checks; run = [] })) {then_sweeps : Bool} (calm : IsCalmIn then_sweeps e.checking (log_of then_ [])) where
     passing_then : IsPassingIn then_sweeps pass_then [] tables_then
     unfolding now_of
     passing_then =
         record {
-          work = work_prompted e out more are finished None t ready.passing.work but tables_then refl stands calm;
+          work = work_prompted e out more are finished test None t ready.passing.work but tables_then refl stands calm;
           going = over (λ (x : Seen). IsGoing t.running p.loads p.hand x) ready.passing.going;
-          owed = owed_prompted e out more are finished ready.passing.owed;
-          loose = λ all. loose_prompted e out more are finished (ready.passing.loose (ap (λ (x : Seen). all_stand x (aim_of x)) (sym same) ∙ all));
+          owed = owed_prompted e out more are finished test ready.passing.owed;
+          loose = λ all. loose_prompted e out more are finished test (ready.passing.loose (ap (λ (x : Seen). all_stand x (aim_of x)) (sym same) ∙ all));
           rests = over AllRest ready.passing.rests;
           few = subst (λ (x : Seen). length x.kept ≤ t.kept.keep) (sym same) ready.passing.few;
           duly = subst AreLeftDuly (sym (log_cut e (out ++ more) e.checking (owes_seen e out))) (prompts_keep AreLeftDuly e (λ x req doc duly. row_duly x e.event e.actor duly (rows.Prompted req doc) tt) more out are ready.passing.duly);

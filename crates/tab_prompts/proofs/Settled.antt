@@ -1,33 +1,37 @@
--- Where documents were swept the table is told, and the user is asked for each request that waited and is settled now, as the table notes it. The event is cut behind these rows, and where each such request was asked about nobody in its check has passed.
-use Rattle.asking_facts.proofs.Standing.{stands_less, stands_same}
+-- Where documents were swept the table is told, and the user is asked for each request that waited and is settled now, as the table notes it. The event is cut behind these rows, of what comes after it is wanted that it spares the documents for whose sake the user was asked while their run lasts, and where each such request was asked about nobody in its check has passed.
+use Rattle.log_model.specs.Seen.{Asked, request_of}
+use Rattle.log_model.specs.Places.{is_traversal}
+use Rattle.asking_facts.proofs.Standing.{stands_less, stands_same, stands_wanting}
 use Rattle.asking_facts.specs.Noting.{Agreed}
 use Rattle.asking_facts.specs.Standing.{StandsAsked}
-use Rattle.check_facts.specs.Prompting.{run_end, todo_of}
+use Rattle.check_facts.specs.Prompting.{todo_of}
 use Rattle.checking_facts.specs.Prompts.{told_by}
 use Rattle.log_model.proofs.Refl.{nat_eq_refl}
-use Rattle.log_model.specs.Places.{is_gone}
 use Rattle.log_model.specs.declared.row_kind.LogRow.{LogRow}
 use Rattle.log_model.specs.declared.row_kind.RowKind.TheVariants as rows
 use Rattle.log_model.specs.declared.row_kind.RowKind.{RowKind}
 use Rattle.row_facts.specs.Owed.Owed.{owes_seen}
 use Rattle.seen_facts.specs.Hang.Members.{Has}
-use Rattle.seen_laws.specs.InEvent.{InEvent, cut, log_of, row_of}
-use Rattle.std.proofs.Common.{Bool, List, None, Option, Some, [], ap, false, filter, inl, inr, not, refl, subst, sym, true, ◌&&◌, ◌++◌, ◌==◌, ◌∙◌, ◌∷◌, ◌≡◌}
+use Rattle.seen_laws.specs.InEvent.{AreAsWanted, EndAsWanted, InEvent, cut, cut_wanting, log_of, row_of}
+use Rattle.std.proofs.Common.{Bool, List, None, Option, Some, [], ap, false, filter, inl, inr, map, not, refl, subst, sym, true, ◌++◌, ◌==◌, ◌∙◌, ◌∷◌, ◌≡◌}
 use Rattle.std.proofs.lemmas.Bool.{and_parts}
-use Rattle.std.specs.Prelude.{if◌then◌else◌, is_none, is_some}
+use Rattle.std.proofs.lemmas.List.{map-append}
+use Rattle.std.specs.Prelude.{if◌then◌else◌}
+use Rattle.tab_doors.proofs.Wanted.{come_on}
 use Rattle.tab_doors.specs.Keeping.{Move}
-use Rattle.tab_doors.specs.Working.{IsAhead, IsAtWorkIn, IsCalmIn}
+use Rattle.tab_doors.specs.Working.{IsAhead, IsAtWorkIn, IsCalmIn, IsToCome}
 use Rattle.tab_doors.specs.declared.tables.Tables.{Tables}
 use Rattle.tab_ids.specs.declared.DocId.{DocId}
 use Rattle.tab_ids.specs.declared.ReqId.{ReqId}
-use Rattle.tab_prompts.proofs.Agreeing.{agreed_quiet, agrees_prompted, ended_quiet}
-use Rattle.tab_prompts.proofs.Lowest.{agrees_while}
+use Rattle.tab_prompts.proofs.Agreeing.{agrees_prompted, ended_quiet}
 use Rattle.tab_prompts.proofs.Dues.{each_due}
 use Rattle.tab_prompts.proofs.Prompted.{stands_prompted}
+use Rattle.tab_prompts.proofs.Sparing.{agrees_spared, new_none, spares_any}
 use Rattle.tab_prompts.proofs.Since.{finished_since}
 use Rattle.tab_prompts.proofs.Told.{ran, told, told_asked}
 use Rattle.tab_prompts.proofs.Works.{prompts_are, work_prompted}
-use Rattle.tab_prompts.specs.Asking.{AreApart, BeginsAsked, EndsOff, left_of, without}
+use Rattle.tab_prompts.specs.Asking.{AreApart, BeginsAsked, left_of, without}
+use Rattle.tab_prompts.specs.Sparing.{new_notes, spares}
 use Rattle.tab_prompts.specs.Prompts.{is_settled_in, is_settled_since, is_waiting, prompts_for}
 use Rattle.unasked_dues.specs.Checking.{NonePasses}
 use Rattle.unload_check.specs.Checks.{OpenCheck}
@@ -103,15 +107,16 @@ waiting_has p (first ∷ among) req has = by_test (p first) refl has (waiting_ha
 
 -- ---- the rows
 
-module _ {sweeps : Bool} (move : Option Move) (e : InEvent) (out : List RowKind) (t : Tables) (work : IsAtWorkIn sweeps move e out t) (begins : BeginsAsked e t.checks) (ends : (row : RowKind) → Has out row → EndsOff e.checking row) where
+module _ {sweeps : Bool} (move : Option Move) (e : InEvent) (out : List RowKind) (t : Tables) (work : IsAtWorkIn sweeps move e out t) (begins : BeginsAsked e t.checks) where
   abbrev pub then_told : List (ReqId × OpenCheck)
-  then_told = told move e out t work begins ends
+  then_told = told move e out t work begins
 
   abbrev pub its_run : ReqId → Bool
-  its_run = ran move e out t work begins ends
+  its_run = ran move e out t work begins
 
-  ahead_on : (req : ReqId) (doc : DocId) (later : List LogRow) → IsAhead move later → IsAhead move (row_of e (rows.Prompted req doc) ∷ later)
-  ahead_on req doc later is = by_move move is
+  -- a prompt shows no document
+  ahead_on : (rows_ : List RowKind) (req : ReqId) (doc : DocId) (later : List LogRow) → IsToCome move e (rows_ ++ rows.Prompted req doc ∷ []) later → IsToCome move e rows_ (row_of e (rows.Prompted req doc) ∷ later)
+  ahead_on rows_ req doc later is = come_on move move e rows_ (rows.Prompted req doc ∷ []) later (by_move move) is
     where
       by_move : (m : Option Move) → IsAhead m later → IsAhead m (row_of e (rows.Prompted req doc) ∷ later)
       by_move None is = tt
@@ -125,56 +130,55 @@ module _ {sweeps : Bool} (move : Option Move) (e : InEvent) (out : List RowKind)
     abbrev pub left : ReqId → Bool
     left = left_of then_told waited (is_settled_since t.checks then_told)
 
-    pub settled_stands : StandsAsked (Agreed (todo_of then_told) its_run e (out ++ prompts) (IsAhead move)) left e (out ++ prompts) (record { checks = then_told; run = [] })
+    pub settled_stands : StandsAsked (Agreed (todo_of then_told) its_run e (out ++ prompts) (IsToCome move e (out ++ prompts))) left e (out ++ prompts) (record { checks = then_told; run = [] })
     settled_stands =
-        stands_prompted e then_told its_run (IsAhead move) work.own ahead_on (is_settled_since t.checks then_told) out waited apart (each_due move e out t work begins ends waited waits) (told_asked move e out t work begins ends)
+        stands_prompted e then_told its_run (IsToCome move e) work.own ahead_on (is_settled_since t.checks then_told) out waited apart (each_due move e out t work begins waited waits) (told_asked move e out t work begins)
 
-    -- ---- the event is cut behind them
+    -- ---- the event is cut behind them: what comes later is to spare the documents of what was noted for the run that lasts
 
-    -- what comes later agrees with what was noted for the run that lasts
-    abbrev pub AgreesLater : Type 0
-    AgreesLater =
-        (later : List LogRow) → IsAhead move later → Agreed (todo_of then_told) its_run e (out ++ prompts) (IsAhead move) later
+    abbrev pub spared : List DocId
+    spared = new_notes (told_by t.checks out).checks then_told
 
-    -- so it does where the last run noted nothing
-    pub agrees_quiet : ((req : ReqId) → its_run req ≡ false) → AgreesLater
-    agrees_quiet quiet = agreed_quiet (todo_of then_told) its_run e (out ++ prompts) (IsAhead move) quiet
+    abbrev pub then_ : InEvent
+    then_ = cut_wanting e (out ++ prompts) e.checking (owes_seen e out) (spares spared)
+
+    -- so what comes later agrees with what was noted
+    agrees : (later : List LogRow) → IsToCome move then_ [] later → Agreed (todo_of then_told) its_run e (out ++ prompts) (IsToCome move e (out ++ prompts)) later
+    agrees later is =
+        (agrees_spared (told_by t.checks out).checks then_told (log_of e (out ++ prompts)) later (agrees_prompted e out prompts (told_by t.checks out) work.asked (prompts_are then_told waited)) parts.0, (is.0, parts.1))
+      where
+        parts : (spares spared later ≡ true) × AreAsWanted e (out ++ prompts) later
+        parts = and_parts (spares spared later) (e.wants (map (row_of e) (out ++ prompts) ++ later)) is.1
+
+    pub cut_stands : StandsAsked (IsToCome move then_ []) left then_ [] (record { checks = then_told; run = [] })
+    cut_stands =
+        stands_wanting (IsToCome move then_ []) left (cut e (out ++ prompts) e.checking (owes_seen e out)) [] (record { checks = then_told; run = [] }) then_.wants
+        (stands_same (IsToCome move then_ []) left e (out ++ prompts) (record { checks = then_told; run = [] }) (owes_seen e out)
+        (stands_less (Agreed (todo_of then_told) its_run e (out ++ prompts) (IsToCome move e (out ++ prompts))) (IsToCome move then_ []) left e (out ++ prompts) (record { checks = then_told; run = [] }) agrees settled_stands))
+
+    -- where all that waited are among these, and no traversal of them goes on, nobody has passed
+    pub cut_calm : ((req : ReqId) → is_waiting t.checks req ≡ true → Has waited req) → ((req : ReqId) (q : Asked) → request_of (log_of then_ []) req ≡ Some q → is_traversal q.what ≡ true → Has waited req → is_settled_in then_told req ≡ true → IsNotedFor then_told req) → NonePasses e.checking (log_of then_ [])
+    cut_calm all noted req q at runs goes on =
+        cut_stands.none req q at runs goes on (left_none then_told waited (is_settled_since t.checks then_told) req (λ is. (let parts = and_parts (is_waiting t.checks req) (is_settled_in then_told req) is in let has = all req parts.0 in (has, noted req q at goes has parts.1))))
+
+    -- the coordinator goes on
+    pub cut_works : {then_sweeps : Bool} → IsCalmIn then_sweeps e.checking (log_of then_ []) → IsAtWorkIn then_sweeps move then_ [] (record t { checks = then_told })
+    cut_works calm =
+        work_prompted e out prompts (prompts_are then_told waited) (finished_since e out work.goes work.off begins.finished) (spares spared) move t work left (record t { checks = then_told }) refl cut_stands calm
+
+    -- ---- what is wanted of the rows behind the cut
+
+    -- they are as it is wanted where they spare these documents, and with the rows before the cut are as was wanted before
+    pub ends_then : (more : List RowKind) → spares spared (map (row_of e) more) ≡ true → EndAsWanted e ((out ++ prompts) ++ more) → EndAsWanted then_ more
+    ends_then more spare was =
+        let before : e.wants (map (row_of e) (out ++ prompts) ++ map (row_of e) more) ≡ true = subst (λ (l : List LogRow). e.wants l ≡ true) (map-append (row_of e) (out ++ prompts) more) was in
+        rw (spare, before) refl
+
+    -- whatever they are they do, where the last run noted nothing
+    pub spared_quiet : ((req : ReqId) → its_run req ≡ false) → (later : List LogRow) → spares spared later ≡ true
+    spared_quiet quiet later =
+        subst (λ (docs : List DocId). spares docs later ≡ true) (sym (new_none (told_by t.checks out).checks then_told quiet)) (spares_any later)
 
     -- or where none lasts
-    pub agrees_ended : (told_by t.checks out).run ≡ [] → AgreesLater
-    agrees_ended ended = agrees_quiet (ended_quiet (told_by t.checks out) ended)
-
-    -- and these rows do, where no document that it noted is gone as the run ends
-    pub agrees_kept : (later : List LogRow) → IsAhead move later → ((req : ReqId) (doc : DocId) → its_run req ≡ true → todo_of then_told req ≡ Some doc → is_gone (run_end (log_of e (out ++ prompts)) later) doc ≡ false) → Agreed (todo_of then_told) its_run e (out ++ prompts) (IsAhead move) later
-    agrees_kept later ahead stays =
-        (agrees_while (todo_of then_told) its_run (log_of e (out ++ prompts)) later (agrees_prompted e out prompts (told_by t.checks out) work.asked (prompts_are then_told waited)) (λ req is. its_doc req is), ahead)
-      where
-        noted_ran : (a b : Bool) → (a && b) ≡ true → b ≡ true
-        noted_ran true b is = is
-        noted_ran false b is = absurd cc
-
-        its_doc : (req : ReqId) → its_run req ≡ true → (doc : DocId) × (todo_of then_told req ≡ Some doc) × (is_gone (run_end (log_of e (out ++ prompts)) later) doc ≡ false)
-        its_doc req is = by_todo (todo_of then_told req) refl (noted_ran (is_none (todo_of (told_by t.checks out).checks req)) (is_some (todo_of then_told req)) is)
-          where
-            by_todo : (o : Option DocId) → todo_of then_told req ≡ o → is_some o ≡ true → (doc : DocId) × (todo_of then_told req ≡ Some doc) × (is_gone (run_end (log_of e (out ++ prompts)) later) doc ≡ false)
-            by_todo None e_ some = absurd cc
-            by_todo (Some doc) e_ some = (doc, e_, stays req doc is e_)
-
-    module _ (agrees : AgreesLater) where
-      abbrev pub then_ : InEvent
-      then_ = cut e (out ++ prompts) e.checking (owes_seen e out)
-
-      pub cut_stands : StandsAsked (IsAhead move) left then_ [] (record { checks = then_told; run = [] })
-      cut_stands =
-          stands_same (IsAhead move) left e (out ++ prompts) (record { checks = then_told; run = [] }) (owes_seen e out)
-          (stands_less (Agreed (todo_of then_told) its_run e (out ++ prompts) (IsAhead move)) (IsAhead move) left e (out ++ prompts) (record { checks = then_told; run = [] }) agrees settled_stands)
-
-      -- where all that waited are among these, and none of them goes on, nobody has passed
-      pub cut_calm : ((req : ReqId) → is_waiting t.checks req ≡ true → Has waited req) → ((req : ReqId) → Has waited req → is_settled_in then_told req ≡ true → IsNotedFor then_told req) → NonePasses e.checking (log_of then_ [])
-      cut_calm all noted req q at runs goes on =
-          cut_stands.none req q at runs goes on (left_none then_told waited (is_settled_since t.checks then_told) req (λ is. (let parts = and_parts (is_waiting t.checks req) (is_settled_in then_told req) is in let has = all req parts.0 in (has, noted req has parts.1))))
-
-      -- the coordinator goes on
-      pub cut_works : {then_sweeps : Bool} → IsCalmIn then_sweeps e.checking (log_of then_ []) → IsAtWorkIn then_sweeps move then_ [] (record t { checks = then_told })
-      cut_works calm =
-          work_prompted e out prompts (prompts_are then_told waited) (finished_since e out work.goes ends begins.finished) move t work left (record t { checks = then_told }) refl cut_stands calm
+    pub spared_ended : (told_by t.checks out).run ≡ [] → (later : List LogRow) → spares spared later ≡ true
+    spared_ended ended = spared_quiet (ended_quiet (told_by t.checks out) ended)

@@ -1,4 +1,5 @@
 -- A request in its check is read as it was where the event began or was cut: by rows of a coordinator it is asked nothing more, isn't prompted, and doesn't end.
+use Rattle.checking_facts.specs.Prompts.{EndsOff}
 use Rattle.check_facts.proofs.Rows.{IsUnmoved, sent_same}
 use Rattle.check_facts.specs.Rows.{IsNoQuestion}
 use Rattle.log_model.specs.After.{after, ended}
@@ -24,7 +25,6 @@ use Rattle.seen_laws.specs.Unasked.{is_question}
 use Rattle.std.proofs.Common.{Bool, List, None, Option, Some, [], ap, false, inl, inr, map, not, refl, sym, true, ◌++◌, ◌∙◌, ◌∷◌, ◌≡◌}
 use Rattle.tab_ids.specs.declared.DocId.{DocId}
 use Rattle.tab_ids.specs.declared.ReqId.{ReqId}
-use Rattle.tab_prompts.specs.Asking.{EndsOff}
 
 -- ---- what is read of a request
 

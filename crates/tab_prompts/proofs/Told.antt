@@ -19,23 +19,22 @@ use Rattle.log_model.specs.Seen.{Asked, Asking, Seen, request_of}
 use Rattle.log_model.specs.declared.handler.Verdict.TheVariants as verdicts
 use Rattle.log_model.specs.declared.handler.Verdict.{Verdict}
 use Rattle.log_model.specs.declared.row_kind.RowKind.{RowKind}
-use Rattle.seen_facts.specs.Hang.Members.{Has}
 use Rattle.seen_laws.specs.InEvent.{InEvent, log_of}
 use Rattle.std.proofs.Common.{Bool, List, None, Option, Some, [], ap, cond, false, inl, inr, map, not, refl, subst, sym, true, ◌&&◌, ◌==◌, ◌||◌, ◌∙◌, ◌∷◌, ◌≡◌}
 use Rattle.std.proofs.lemmas.Bool.{and_parts}
 use Rattle.std.specs.Option.{option_map_or}
 use Rattle.std.specs.Prelude.{is_none, option_and_then, option_map}
 use Rattle.tab_doors.specs.Keeping.{Move}
-use Rattle.tab_doors.specs.Working.{IsAhead, IsAtWorkIn}
+use Rattle.tab_doors.specs.Working.{IsAtWorkIn, IsToCome}
 use Rattle.tab_doors.specs.declared.tables.Tables.{Tables}
 use Rattle.tab_ids.specs.declared.DocId.{DocId}
 use Rattle.tab_ids.specs.declared.ReqId.{ReqId}
 use Rattle.tab_prompts.proofs.Since.{Course, course_of, so_since}
 use Rattle.tab_prompts.proofs.Tables.{Goes, GoesAt, goes_told, noted_in, wants_in}
-use Rattle.tab_prompts.specs.Asking.{BeginsAsked, EndsOff, are_unheard, told_of}
+use Rattle.tab_prompts.specs.Asking.{BeginsAsked, are_unheard, told_of}
 use Rattle.tab_prompts.specs.Prompts.{is_settled_in, is_settled_since, is_waiting}
 use Rattle.unload_check.specs.Checks as table
-use Rattle.unload_check.specs.Checks.{OpenCheck, after_all_deaths, check_of, is_settled, outcome_of}
+use Rattle.unload_check.specs.Checks.{OpenCheck, check_of, is_settled, outcome_of}
 use Rattle.unload_check.specs.declared.check.Check.TheVariants as checks
 
 some_same : {A : Type 0} {a b : A} → (let o : Option A = Some a in o) ≡ Some b → a ≡ b
@@ -115,7 +114,7 @@ module _ (s : Seen) (q : Asked) (c : OpenCheck) (tied : AreTiedAt s (Some q) (So
 
 -- ---- the table is told
 
-module _ {sweeps : Bool} (move : Option Move) (e : InEvent) (out : List RowKind) (t : Tables) (work : IsAtWorkIn sweeps move e out t) (begins : BeginsAsked e t.checks) (ends : (row : RowKind) → Has out row → EndsOff e.checking row) where
+module _ {sweeps : Bool} (move : Option Move) (e : InEvent) (out : List RowKind) (t : Tables) (work : IsAtWorkIn sweeps move e out t) (begins : BeginsAsked e t.checks) where
   abbrev now : Seen
   now = log_of e out
 
@@ -130,7 +129,7 @@ module _ {sweeps : Bool} (move : Option Move) (e : InEvent) (out : List RowKind)
   Was req q = (p : Asked) × (request_of first req ≡ Some p) × (course_of p ≡ course_of q)
 
   pub was : (req : ReqId) (q : Asked) → request_of now req ≡ Some q → e.checking req ≡ true → Was req q
-  was = so_since e out work.goes ends
+  was = so_since e out work.goes work.off
 
   -- the table held its check then, and does
   pub held_first : AreHeld first t.checks
@@ -312,10 +311,10 @@ module _ {sweeps : Bool} (move : Option Move) (e : InEvent) (out : List RowKind)
   abbrev pub ran : ReqId → Bool
   ran = runs_now e.start now (told_by t.checks out) work.asked.run
 
-  pub told_asked : StandsAsked (Agreed (todo_of told) ran e out (IsAhead move)) (is_settled_since t.checks told) e out (record { checks = told; run = [] })
+  pub told_asked : StandsAsked (Agreed (todo_of told) ran e out (IsToCome move e out)) (is_settled_since t.checks told) e out (record { checks = told; run = [] })
   told_asked =
       record {
-        pass = told_pass (IsAhead move) e out (told_by t.checks out) work.asked.run work.lawful;
+        pass = told_pass (IsToCome move e out) e out (told_by t.checks out) work.asked.run work.lawful;
         asked = told_duly e.checking e.start now (told_by t.checks out) work.asked;
         checks = work.checks;
         none = none_told;

@@ -9,19 +9,19 @@ use Rattle.log_model.specs.declared.row_kind.RowKind.TheVariants as rows
 use Rattle.log_model.specs.declared.row_kind.RowKind.{RowKind}
 use Rattle.row_facts.specs.Owed.Owed.{IsLoose, IsOwed, Lasts, Stays, owes_seen}
 use Rattle.seen_laws.proofs.InEvents.{log_fold, log_more}
-use Rattle.seen_laws.specs.InEvent.{InEvent, cut, log_of, now_of, row_of}
+use Rattle.seen_laws.specs.InEvent.{InEvent, cut, cut_wanting, log_of, now_of, row_of}
 use Rattle.seen_laws.specs.Unasked.{no_question}
 use Rattle.std.proofs.Common.{Bool, List, None, Option, Some, [], ap, append-nil, append_assoc, map, refl, subst, sym, ℕ, ◌++◌, ◌+◌, ◌∙◌, ◌∷◌, ◌≡◌}
 use Rattle.std.proofs.lemmas.List.{map-append}
 use Rattle.std.specs.Prelude.{fold, option_and_then}
 use Rattle.tab_cuts.proofs.Debts.{EachOwesSole, debts_entered}
-use Rattle.tab_cuts.proofs.Owed.{loose_cut, now_cut, owed_cut}
+use Rattle.tab_cuts.proofs.Owed.{loose_cut, loose_wanting, now_cut, owed_cut, owed_wanting}
 use Rattle.tab_cuts.proofs.Silent.{noted_log}
-use Rattle.tab_cuts.proofs.Works.{ties_beside, work_behind}
+use Rattle.tab_cuts.proofs.Works.{ties_beside, work_wanting}
 use Rattle.tab_cuts.specs.Cut.{TiesCut}
 use Rattle.tab_doors.proofs.Works.{soles_more}
 use Rattle.tab_doors.specs.Keeping.{Move}
-use Rattle.tab_doors.specs.Working.{IsAhead, IsAtWorkIn, IsCalmIn}
+use Rattle.tab_doors.specs.Working.{IsAtWorkIn, IsCalmIn, IsToCome}
 use Rattle.tab_doors.specs.declared.tables.Tables.{Tables}
 use Rattle.tab_ids.specs.declared.DocId.{DocId}
 use Rattle.tab_ids.specs.declared.ReqId.{ReqId}
@@ -108,9 +108,13 @@ soles_on e (_ ∷ more) out never sole = absurd never
 
 -- ---- the event is cut behind them
 
-module _ (e : InEvent) (out more : List RowKind) (are : ArePrompts more) (finished : FinishedNone e out) where
+module _ (e : InEvent) (out more : List RowKind) (are : ArePrompts more) (finished : FinishedNone e out) (test : List LogRow → Bool) where
+  abbrev cut_prompted : InEvent
+  cut_prompted = cut e (out ++ more) e.checking (owes_seen e out)
+
+  -- this is wanted of what comes after
   abbrev pub then_prompted : InEvent
-  then_prompted = cut e (out ++ more) e.checking (owes_seen e out)
+  then_prompted = cut_wanting e (out ++ more) e.checking (owes_seen e out) test
 
   -- the log without questions is as it was
   pub same_prompted : now_of then_prompted [] ≡ now_of e out
@@ -123,14 +127,16 @@ module _ (e : InEvent) (out more : List RowKind) (are : ArePrompts more) (finish
 
   pub owed_prompted : IsOwed e out → IsOwed then_prompted []
   owed_prompted owed =
-      owed_cut e (out ++ more) e.checking (owes_seen e out) (λ end stays. owed end (subst (λ (s : Seen). Stays s end) before_same stays))
+      owed_wanting cut_prompted then_prompted.wants
+      (owed_cut e (out ++ more) e.checking (owes_seen e out) (λ end stays. owed end (subst (λ (s : Seen). Stays s end) before_same stays)))
 
   pub loose_prompted : IsLoose e out → IsLoose then_prompted []
   loose_prompted loose =
-      loose_cut e (out ++ more) e.checking (owes_seen e out) (λ end lasts. loose end (subst (λ (s : Seen). Lasts s end) before_same lasts))
+      loose_wanting cut_prompted then_prompted.wants
+      (loose_cut e (out ++ more) e.checking (owes_seen e out) (λ end lasts. loose end (subst (λ (s : Seen). Lasts s end) before_same lasts)))
 
   module _ {sweeps : Bool} (move : Option Move) (t : Tables) (work : IsAtWorkIn sweeps move e out t) where
-    pub debts_prompted : AreDebts then_prompted
+    debts_prompted : AreDebts cut_prompted
     debts_prompted =
         debts_entered e out more e.checking (λ r on. on) work.numbered work.read work.debts (owe_sole more are)
 
@@ -159,6 +165,6 @@ module _ (e : InEvent) (out more : List RowKind) (are : ArePrompts more) (finish
           kept = ties.kept;
         }))
 
-    pub work_prompted : (but : ReqId → Bool) (u : Tables) → u ≡ record t { checks = u.checks } → StandsAsked (IsAhead move) but then_prompted [] (record { checks = u.checks; run = [] }) → {then_sweeps : Bool} → IsCalmIn then_sweeps e.checking (log_of then_prompted []) → IsAtWorkIn then_sweeps move then_prompted [] u
+    pub work_prompted : (but : ReqId → Bool) (u : Tables) → u ≡ record t { checks = u.checks } → StandsAsked (IsToCome move then_prompted []) but then_prompted [] (record { checks = u.checks; run = [] }) → {then_sweeps : Bool} → IsCalmIn then_sweeps e.checking (log_of then_prompted []) → IsAtWorkIn then_sweeps move then_prompted [] u
     work_prompted but u is stands calm =
-        work_behind move e (out ++ more) e.checking (owes_seen e out) u but work.own work.worker work.numbered (soles_on e more out are work.sole) debts_prompted stands (ties_prompted u is) calm
+        work_wanting move e (out ++ more) e.checking (owes_seen e out) u but then_prompted.wants work.own work.worker work.numbered (soles_on e more out are work.sole) debts_prompted stands (ties_prompted u is) calm

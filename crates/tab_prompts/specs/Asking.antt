@@ -41,15 +41,6 @@ pub record BeginsAsked (e : InEvent) (checks : List (ReqId × OpenCheck)) : Type
   pub there : (req : ReqId) → request_of (log_of e []) req ≡ None → check_of req checks ≡ None
   pub finished : (log_of e []).just_finished ≡ None
 
--- a row of a coordinator that ends no request in its check
-abbrev pub EndsOff : (ReqId → Bool) → RowKind → Type 0
-EndsOff checking (rows.Sent job) = Unit {0}
-EndsOff checking (rows.Started req goal) = Unit {0}
-EndsOff checking (rows.Applied req change) = Unit {0}
-EndsOff checking (rows.Refused req reason) = checking req ≡ false
-EndsOff checking (rows.Dropped req cause) = checking req ≡ false
-EndsOff checking _ = ⊥
-
 -- ---- the user is to be asked
 
 -- about the request, for the sake of the document that the table notes: it is in its check and under way, and the last of its questions that were open as the event began was settled since

@@ -1,2 +1,3 @@
 pub mod Prompts
 pub mod Asking
+pub mod Sparing
