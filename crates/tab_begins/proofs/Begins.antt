@@ -20,12 +20,12 @@ use Rattle.std.proofs.lemmas.Bool.{and_parts}
 use Rattle.std.specs.List.{list_all, list_any}
 use Rattle.std.specs.Option.{option_map_or}
 use Rattle.std.specs.Prelude.{option_map}
-use Rattle.tab_facts.proofs.Calm.Awakes.{awake_shown, lost_none, stand_each}
+use Rattle.tab_facts.proofs.Calm.Awakes.{lost_none}
 use Rattle.tab_begins.proofs.Downs.{AllPlaced, IsInNeed, down}
 use Rattle.tab_begins.proofs.Standings.{all_of, in_place}
 use Rattle.tab_one_pass.proofs.PassedOn.{stand_reached}
 pub use Rattle.tab_one_pass.proofs.PassedOn.{each_stands}
-use Rattle.tab_one_pass.specs.Passing.{AreLeftStrays, AreUnheld, HasPassed, IsLeftStray, IsLoadOf, IsOpen, MayCause, MayServe, ParentsShown, StandOrMove, TakersServe}
+use Rattle.tab_one_pass.specs.Passing.{AreLeftStrays, AreUnheld, HasPassed, IsLeftStray, IsLoadOf, IsOpen, MayCause, MayServe, ParentsShown, StandOrMove, StillAwake, TakersServe}
 pub use Rattle.tab_one_pass.specs.Passing.{IsBare, IsUnsettled}
 use Rattle.tab_ids.specs.declared.DocId.{DocId}
 use Rattle.tab_ids.specs.declared.NavId.{NavId}
@@ -41,7 +41,7 @@ use Rattle.tab_applies.specs.PassedOn.{LeavesAlone}
 use Rattle.seen_facts.proofs.Walk.Placed.{found_nav}
 use Rattle.row_facts.proofs.WalkRows.Moved.{run_moves}
 use Rattle.row_facts.proofs.WalkRows.Sinces.{places_since}
-use Rattle.row_facts.specs.WalkRows.Since.{MovesVisited}
+use Rattle.row_facts.specs.WalkRows.Since.{AwakeSince, MovesVisited}
 use Rattle.log_model.specs.declared.job.Why.TheVariants as whys
 
 -- who is reached is so, where places, entries and the aim are as they were
@@ -143,15 +143,7 @@ module _ (p : InPass) (s n : Seen) (alone : LeavesAlone s n) (loads : (req : Req
 
   -- ---- where a traversal runs then
 
-  module _ (tab : IsTab None p.loads p.hand s) (stand : all_stand s s.history.current ≡ true) (aim : aim_of s ≡ s.history.current) (run : ReqId) (tab_n : IsTab (Some run) p.loads p.hand n) where
-    -- each awake one has arrived
-    arrived : (nav : NavId) (place : Place) (doc : DocId) → place_of n nav ≡ Some place → place.status ≡ awake doc → has_arrived place ≡ true
-    arrived nav place doc at wakes =
-        let was : place_of s nav ≡ Some place = sym (place_same nav) ∙ at in
-        let shown : is_shown s.history.rows s.history.current nav ≡ true = awake_shown s tab.sound tab.hangs tab.homes tab.standing passed.rows_ s.history.current stand nav place doc was wakes in
-        let stands : is_standing s.history.rows s.history.current place ≡ true = stand_each s tab.standing s.history.current stand nav place was shown in
-        (and_parts (is_given_target s.history.rows s.history.current place && not place.is_unmet) (has_arrived place) stands).1
-
+  module _ (tab : IsTab None p.loads p.hand s) (run : ReqId) (tab_n : IsTab (Some run) p.loads p.hand n) where
     -- the navigable of an ongoing load is awake
     record IsAwakeOn (place : Place) : Type 0 where
       doc : DocId
@@ -165,12 +157,21 @@ module _ (p : InPass) (s n : Seen) (alone : LeavesAlone s n) (loads : (req : Req
         by_status lost is h = absurd cc
         by_status asleep is h = absurd cc
 
+    -- who is placed stood
+    stood_at : (nav : NavId) (place : Place) → place_of s nav ≡ Some place → is_placed s (aim_of s) nav ≡ true → is_standing s.history.rows (aim_of s) place ≡ true
+    stood_at nav place found placed =
+        sym (ap (λ (o : Option Place). holds (is_standing s.history.rows (aim_of s)) o) found)
+        ∙ (and_parts (is_shown s.history.rows (aim_of s) nav) (holds (is_standing s.history.rows (aim_of s)) (place_of s nav)) placed).1
+
     wakes_now : (nav : NavId) (its : IsReachedAt s nav) → IsAwakeOn its.place
     wakes_now nav its =
-        let both = and_parts (is_shown s.history.rows (aim_of s) nav) (holds (is_standing s.history.rows (aim_of s)) (place_of s nav)) (its.each nav (own_has nav its.place.above)) in
-        let stands : is_standing s.history.rows (aim_of s) its.place ≡ true = sym (ap (λ (o : Option Place). holds (is_standing s.history.rows (aim_of s)) o) its.placed) ∙ both.1 in
-        let here = in_place s.history.rows (aim_of s) its.place (tab.standing nav its.place its.placed).unlost stands in
+        let here = in_place s.history.rows (aim_of s) its.place (tab.standing nav its.place its.placed).unlost (stood_at nav its.place its.placed (its.each nav (own_has nav its.place.above))) in
         awake_on its.place (and_parts (is_awake its.place) (is_given_target s.history.rows (aim_of s) its.place) here).0
+
+    -- so it has arrived, and so have all above it
+    arrived : (nav : NavId) (its : IsReachedAt s nav) (x : NavId) (place : Place) → has_nav (nav ∷ its.place.above) x ≡ true → place_of n x ≡ Some place → has_arrived place ≡ true
+    arrived nav its x place has found =
+        (and_parts (is_given_target s.history.rows (aim_of s) place && not place.is_unmet) (has_arrived place) (stood_at x place (sym (place_same x) ∙ found) (its.each x has))).1
 
     way_is : (nav : NavId) (place : Place) → place_of n nav ≡ Some place → way_to n nav ≡ nav ∷ place.above
     way_is nav place found =
@@ -180,7 +181,7 @@ module _ (p : InPass) (s n : Seen) (alone : LeavesAlone s n) (loads : (req : Req
     -- it stands at the new aim, or moves
     pub loads_move : StandOrMove n
     loads_move req nav its =
-        by_way (down (Some run) p.loads p.hand n tab_n rows_on arrived nav at_.place on.doc there on.is)
+        by_way (down (Some run) p.loads p.hand n tab_n rows_on nav at_.place on.doc there on.is (arrived nav at_))
       where
         reached : is_reached s nav ≡ true
         reached = stand_reached s passed.walked.loads req nav (load_was req nav its)
@@ -194,7 +195,7 @@ module _ (p : InPass) (s n : Seen) (alone : LeavesAlone s n) (loads : (req : Req
         there : place_of n nav ≡ Some at_.place
         there = place_same nav ∙ at_.placed
 
-        by_way : AllPlaced (Some run) p.loads p.hand n tab_n rows_on arrived (nav ∷ at_.place.above) ⊎ IsInNeed (Some run) p.loads p.hand n tab_n rows_on arrived (nav ∷ at_.place.above) → (is_reached n nav ≡ true) ⊎ (IsUnsettled n nav ⊎ IsBare n nav)
+        by_way : AllPlaced (Some run) p.loads p.hand n tab_n rows_on (nav ∷ at_.place.above) ⊎ IsInNeed (Some run) p.loads p.hand n tab_n rows_on (nav ∷ at_.place.above) → (is_reached n nav ≡ true) ⊎ (IsUnsettled n nav ⊎ IsBare n nav)
         by_way (inl all) =
             inl (rw (all_of (is_placed n (aim_of n)) (way_to n nav) (λ x has. all x (ap (λ (l : List NavId). has_nav l x) (sym (way_is nav at_.place there)) ∙ has))) (ap (λ (o : Option Place). holds (λ (x : Place). not (list_any (is_lost_in n.places) x.above)) o) there ∙ ap not (lost_none n tab_n.standing at_.place.above)))
         by_way (inr it) =
@@ -212,13 +213,14 @@ module _ (p : InPass) (s n : Seen) (alone : LeavesAlone s n) (loads : (req : Req
     its : MayServe n run
     its = show_causes n (Some run) tab_n.asked whys.Start (λ r never. absurd cc) run refl
 
-    pub open_then : (cause : Why) → MayCause n cause → IsOpen p.event (Some run) cause n
-    open_then cause may =
+    -- where who is awake was so as the event began, and the other way round
+    pub open_then : AwakeSince p.event.start [] s → StillAwake p.event.start s → (cause : Why) → MayCause n cause → IsOpen p.event (Some run) cause n
+    open_then unwoken still_awake cause may =
         record {
           may = may;
           since = record { distinct = passed.walked.since.distinct; homed = passed.walked.since.homed; ways = ways_on };
-          unwoken = places_since p.event.start s [] (passed.walked.unwoken (ap (all_stand s) aim ∙ stand)) n alone.places;
-          still = still_left p.event.start s n alone.places alone.documents (passed.walked.still (ap (all_stand s) aim ∙ stand));
+          unwoken = places_since p.event.start s [] unwoken n alone.places;
+          still = still_left p.event.start s n alone.places alone.documents still_awake;
           moves = moves_then;
           leavers = λ nav place at need epoch. run_leaver n run tab_n.asked nav;
           were = were_on;

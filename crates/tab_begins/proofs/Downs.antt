@@ -1,26 +1,26 @@
--- At any aim, where all that are awake have arrived, an awake navigable stands with all above it, or it or one above it is visited and in need.
-use Rattle.tab_facts.specs.FrameWhole.Tab.{AreAwakeWithRows}
-use Rattle.seen_facts.proofs.Hang.Forms.{nav_is}
-use Rattle.seen_facts.proofs.Hang.Hung.{place_chain}
-use Rattle.seen_facts.specs.Hang.AsPlaces.{IsChain}
-use Rattle.seen_facts.specs.Home.Homes.{IsOnAwake}
+-- At any aim, an awake navigable that has arrived, as all above it have, stands with them, or it or one above it is visited and in need.
 use Rattle.log_model.proofs.Refl.{nat_eq_refl}
 use Rattle.log_model.specs.Equal.{holds}
 use Rattle.log_model.specs.History.{has_nav}
 use Rattle.log_model.specs.Places.{aim_of, has_arrived, is_asleep, is_given_target, is_placed, is_shown, is_standing}
 use Rattle.log_model.specs.Seen.{Place, Seen, awake, lost, place_of}
 use Rattle.log_model.specs.declared.made.Made.{Made}
+use Rattle.row_facts.specs.WalkRows.Since.{IsVisitedInNeed}
+use Rattle.seen_facts.proofs.Hang.Forms.{nav_is}
+use Rattle.seen_facts.proofs.Hang.Hung.{place_chain}
+use Rattle.seen_facts.proofs.Walk.Placed.{found_nav}
+use Rattle.seen_facts.specs.Hang.AsPlaces.{IsChain}
+use Rattle.seen_facts.specs.Home.Homes.{IsOnAwake}
+use Rattle.seen_facts.specs.Walk.Serving.{is_in_place, is_needing, is_stopping}
 use Rattle.std.proofs.Common.{Bool, List, None, Option, Some, [], ap, false, inl, inr, not, refl, sym, true, ◌&&◌, ◌==◌, ◌||◌, ◌∙◌, ◌∷◌, ◌≡◌, ◌⊎◌}
 use Rattle.std.proofs.lemmas.Bool.{and_parts}
-use Rattle.tab_facts.proofs.Calm.Awakes.{child, given_standing, top_shown}
 use Rattle.tab_begins.proofs.Standings.{in_place, none_of}
+use Rattle.tab_facts.proofs.Calm.Awakes.{child, given_standing, top_shown}
+use Rattle.tab_facts.specs.FrameWhole.Tab.{AreAwakeWithRows}
 use Rattle.tab_ids.specs.declared.DocId.{DocId}
 use Rattle.tab_ids.specs.declared.NavId.{NavId}
 use Rattle.tab_ids.specs.declared.ReqId.{ReqId}
 use Rattle.tab_one_pass.specs.PassedOn.{IsTab}
-use Rattle.seen_facts.proofs.Walk.Placed.{found_nav}
-use Rattle.seen_facts.specs.Walk.Serving.{is_in_place, is_needing, is_stopping}
-use Rattle.row_facts.specs.WalkRows.Since.{IsVisitedInNeed}
 
 -- one that has arrived and doesn't stand needs something
 needs_not : (s : Seen) (place : Place) → has_arrived place ≡ true → is_standing s.history.rows (aim_of s) place ≡ false → is_needing s.history.rows (aim_of s) place ≡ true
@@ -40,10 +40,14 @@ needs_not s place arrived off =
     by_tests false false e true = refl
     by_tests false false e false = refl
 
-module _ (run : Option ReqId) (loads : List ReqId) (hand : List Made) (s : Seen) (tab : IsTab run loads hand s) (with_rows : AreAwakeWithRows s) (arrived : (nav : NavId) (place : Place) (doc : DocId) → place_of s nav ≡ Some place → place.status ≡ awake doc → has_arrived place ≡ true) where
+module _ (run : Option ReqId) (loads : List ReqId) (hand : List Made) (s : Seen) (tab : IsTab run loads hand s) (with_rows : AreAwakeWithRows s) where
   -- each of these stands
   abbrev pub AllPlaced : List NavId → Type 0
   AllPlaced navs = (x : NavId) → has_nav navs x ≡ true → is_placed s (aim_of s) x ≡ true
+
+  -- each of these has arrived
+  abbrev pub AllArrived : List NavId → Type 0
+  AllArrived navs = (x : NavId) (place : Place) → has_nav navs x ≡ true → place_of s x ≡ Some place → has_arrived place ≡ true
 
   -- one of these is visited and in need
   pub record IsInNeed (navs : List NavId) : Type 0 where
@@ -83,9 +87,8 @@ module _ (run : Option ReqId) (loads : List ReqId) (hand : List Made) (s : Seen)
           ∙ ap not (in_place s.history.rows (aim_of s) place (unlost x place found) stand)
 
   -- one that is shown below such ones stands, too, or is in need
-  next : (nav : NavId) (place : Place) (doc : DocId) → place_of s nav ≡ Some place → place.status ≡ awake doc → is_shown s.history.rows (aim_of s) nav ≡ true → AllPlaced place.above → AllPlaced (nav ∷ place.above) ⊎ IsInNeed (nav ∷ place.above)
-  next nav place doc found wakes shown above =
-      by_stand (is_standing s.history.rows (aim_of s) place) refl
+  next : (nav : NavId) (place : Place) → place_of s nav ≡ Some place → has_arrived place ≡ true → is_shown s.history.rows (aim_of s) nav ≡ true → AllPlaced place.above → AllPlaced (nav ∷ place.above) ⊎ IsInNeed (nav ∷ place.above)
+  next nav place found arrived shown above = by_stand (is_standing s.history.rows (aim_of s) place) refl
     where
       own_nav : place.nav ≡ nav
       own_nav = found_nav s.places nav place found
@@ -111,15 +114,15 @@ module _ (run : Option ReqId) (loads : List ReqId) (hand : List Made) (s : Seen)
             need = record {
               shown = ap (λ (n : NavId). is_shown s.history.rows (aim_of s) n) own_nav ∙ shown;
               reached = none_of (is_stopping s.history.rows (aim_of s) s.places) place.above (λ x has. free x (above x has));
-              needs = needs_not s place (arrived nav place doc found wakes) off;
+              needs = needs_not s place arrived off;
             };
           })
 
-  down_from : (above : List NavId) (nav : NavId) (place : Place) (doc : DocId) → place_of s nav ≡ Some place → place.status ≡ awake doc → place.above ≡ above → IsChain s.places above → AllPlaced (nav ∷ place.above) ⊎ IsInNeed (nav ∷ place.above)
-  down_from [] nav place doc found wakes is chain =
-      next nav place doc found wakes (top_shown s tab.sound tab.hangs tab.homes with_rows (aim_of s) nav place found is) (λ x has. let never : true ≡ false = sym has ∙ ap (λ (l : List NavId). has_nav l x) is in absurd cc)
-  down_from (parent ∷ others) nav place doc found wakes is chain =
-      by_above (down_from others parent on.above on.doc on.there on.wakes rest chain.1)
+  down_from : (above : List NavId) (nav : NavId) (place : Place) (doc : DocId) → place_of s nav ≡ Some place → place.status ≡ awake doc → place.above ≡ above → IsChain s.places above → AllArrived (nav ∷ place.above) → AllPlaced (nav ∷ place.above) ⊎ IsInNeed (nav ∷ place.above)
+  down_from [] nav place doc found wakes is chain arrived =
+      next nav place found (arrived nav place (own_has nav place.above) found) (top_shown s tab.sound tab.hangs tab.homes with_rows (aim_of s) nav place found is) (λ x has. let never : true ≡ false = sym has ∙ ap (λ (l : List NavId). has_nav l x) is in absurd cc)
+  down_from (parent ∷ others) nav place doc found wakes is chain arrived =
+      by_above (down_from others parent on.above on.doc on.there on.wakes rest chain.1 (λ x q has at. arrived x q (later nav x place.above (ap (λ (l : List NavId). has_nav l x) (sym lists) ∙ has)) at))
     where
       on : IsOnAwake s place parent
       on = tab.homes.hung nav place doc found wakes parent others is
@@ -137,7 +140,7 @@ module _ (run : Option ReqId) (loads : List ReqId) (hand : List Made) (s : Seen)
       by_above (inr it) =
           inr (record { mover = it.mover; on_way = later nav it.mover place.above (ap (λ (l : List NavId). has_nav l it.mover) (sym lists) ∙ it.on_way); own = it.own; there = it.there; need = it.need })
       by_above (inl all) =
-          next nav place doc found wakes (child s tab.sound tab.hangs tab.homes with_rows (aim_of s) nav place doc parent others found wakes is on rest (given_standing s (aim_of s) on.above stand) both.0) (λ x has. all x (ap (λ (l : List NavId). has_nav l x) lists ∙ has))
+          next nav place found (arrived nav place (own_has nav place.above) found) (child s tab.sound tab.hangs tab.homes with_rows (aim_of s) nav place doc parent others found wakes is on rest (given_standing s (aim_of s) on.above stand) both.0) (λ x has. all x (ap (λ (l : List NavId). has_nav l x) lists ∙ has))
         where
           both : (is_shown s.history.rows (aim_of s) parent ≡ true) × (holds (is_standing s.history.rows (aim_of s)) (place_of s parent) ≡ true)
           both =
@@ -147,6 +150,6 @@ module _ (run : Option ReqId) (loads : List ReqId) (hand : List Made) (s : Seen)
           stand =
               sym (ap (λ (o : Option Place). holds (is_standing s.history.rows (aim_of s)) o) on.there) ∙ both.1
 
-  pub down : (nav : NavId) (place : Place) (doc : DocId) → place_of s nav ≡ Some place → place.status ≡ awake doc → AllPlaced (nav ∷ place.above) ⊎ IsInNeed (nav ∷ place.above)
-  down nav place doc found wakes =
-      down_from place.above nav place doc found wakes refl (place_chain s tab.sound tab.hangs nav place found)
+  pub down : (nav : NavId) (place : Place) (doc : DocId) → place_of s nav ≡ Some place → place.status ≡ awake doc → AllArrived (nav ∷ place.above) → AllPlaced (nav ∷ place.above) ⊎ IsInNeed (nav ∷ place.above)
+  down nav place doc found wakes arrived =
+      down_from place.above nav place doc found wakes refl (place_chain s tab.sound tab.hangs nav place found) arrived

@@ -103,11 +103,14 @@ module _ (p : InPass) (out : List RowKind) (t : Tables) (passing : IsPassing p o
         tab_n : IsTab (Some run) p.loads p.hand n
         tab_n = subst (λ (r : Option ReqId). IsTab r p.loads p.hand n) ran then_.going.tab
 
+        stood : all_stand s (aim_of s) ≡ true
+        stood = ap (all_stand s) aim_was ∙ stand
+
         begun : HasBegun e run n
         begun =
             record {
-              open_ = λ cause may. open_then p s n gone.alone loads still passed tab stand aim_was run tab_n cause may;
-              loads = loads_move p s n gone.alone loads still passed tab stand aim_was run tab_n;
+              open_ = λ cause may. open_then p s n gone.alone loads still passed tab run tab_n (passed.walked.unwoken stood) (passed.walked.still stood) cause may;
+              loads = loads_move p s n gone.alone loads still passed tab run tab_n;
             }
 
     goes_refused : u.running ≡ None → GoesOn e u.running n

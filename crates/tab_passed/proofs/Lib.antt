@@ -1,0 +1,12 @@
+pub mod Begun
+pub mod Going
+pub mod Opens
+pub mod Free
+pub mod Ready
+pub mod Start
+pub mod Left
+pub mod Heard
+pub mod Who
+pub mod Past
+pub mod Ends
+pub mod Calls
