@@ -1,17 +1,14 @@
 -- The document that is kept longest, as the user evicts it: nobody is awake on it, and the tables have it for its state alone.
 use Rattle.load_doors.specs.Logged.{IsLogged}
 use Rattle.tab_stands.specs.Standing.{StartsUnasked}
-use Rattle.seen_facts.proofs.Asked.Passed.{asked_all}
 use Rattle.seen_facts.proofs.Hang.Hung.{places_distinct}
 use Rattle.seen_facts.proofs.Hang.Members.{has_map}
 use Rattle.seen_facts.proofs.Hang.Parts.{state_is}
 use Rattle.seen_facts.specs.Hang.Members.{Has}
 use Rattle.seen_facts.proofs.Kept.States.{AreOfOwnStates, sole_states}
 use Rattle.seen_facts.specs.Kept.Keeping.{IsKeptDoc, IsMadeFor, is_last}
-use Rattle.row_facts.proofs.LeaveRows.Unasked.{all_answered}
 use Rattle.row_facts.specs.LeaveRows.Evicting.{IsEvictDue}
 use Rattle.row_facts.specs.LeaveRows.Leaving.{IsDiscardOf}
-use Rattle.row_facts.specs.FrameRows.Discarding.{SettlesNone}
 use Rattle.row_facts.specs.Left.Left.{WasEverShown, WereShown}
 use Rattle.load_doors.specs.Tied.{AreTied}
 use Rattle.seen_facts.specs.Load.Loading.{IsLoading, look, look_of}
@@ -22,12 +19,9 @@ use Rattle.log_model.proofs.Refl.{nat_eq_refl}
 use Rattle.log_model.specs.AfterPlaces.{sleepers_with}
 use Rattle.log_model.specs.Equal.{has_doc, holds}
 use Rattle.log_model.specs.History.{has_nav}
-use Rattle.log_model.specs.Places.{all_asked}
 use Rattle.log_model.specs.Seen.{Asked, Document, Place, Seen, document_of, place_of}
-use Rattle.log_model.specs.declared.row_kind.LogRow.{LogRow}
 use Rattle.nav_tree.specs.Tree.{document_of as document_at}
 use Rattle.nav_tree.specs.declared.place.Place as live_place
-use Rattle.seen_facts.proofs.Rest.Stands.{all_requests}
 use Rattle.seen_facts.proofs.Rest.Still.{found_itself}
 use Rattle.seen_laws.specs.InEvent.{InEvent, now_of}
 use Rattle.std.proofs.Common.{Bool, List, None, Option, Some, [], ap, arith, false, map, not, refl, subst, sym, true, ℕ, ◌&&◌, ◌==◌, ◌||◌, ◌∙◌, ◌≡◌}
@@ -161,10 +155,6 @@ module _ (e : InEvent) (state : StateId) (asks : IsEvictAsk e state) (t : Tables
 
   -- ---- what the order asks
 
-  none_asked : (row : LogRow) → SettlesNone n row
-  none_asked row =
-      all_answered n row (all_requests n.requests (all_asked n) (λ req q at. asked_all n q (tab.asked.passed req q at)))
-
   discards : IsDiscardOf n (order_to n doc whys.Evict tasks.Discard) document
   discards =
       record {
@@ -217,7 +207,6 @@ module _ (e : InEvent) (state : StateId) (asks : IsEvictAsk e state) (t : Tables
         unshown = unshown;
         discards = discards;
         known = (tab.asked.died (proc_at n doc)).0;
-        settles = none_asked;
         gone = gone;
         own_state = own_state;
       }

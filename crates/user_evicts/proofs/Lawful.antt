@@ -1,13 +1,10 @@
--- The row with which the user evicts and the order that discards the document may be logged together, whatever comes later: what later rows leave first was shown last, which the kept document wasn't.
+-- The row with which the user evicts may be logged where the order that discards the document follows, and this order where the prompts come that it makes due: what later rows leave first was shown last, which the kept document wasn't.
+use Rattle.checking_facts.specs.Prompts.{PassIf}
 use Rattle.tab_doors.proofs.Uncut.{uncut_pass}
-use Rattle.row_facts.specs.FrameRows.Lawful.{AreLawful, IsRestOf}
 use Rattle.seen_facts.specs.Hang.Members.{Has}
 use Rattle.seen_facts.specs.Kept.Keeping.{is_last}
-use Rattle.row_facts.proofs.LeaveRows.Ahead.{evicted_ahead}
-use Rattle.row_facts.proofs.LeaveRows.Evicts.{discard_discards, evicted_may, evicted_row}
+use Rattle.row_facts.proofs.LeaveRows.Evicts.{discard_discards, discarded_by, evicted_may, evicted_row}
 use Rattle.row_facts.proofs.LeaveRows.LeftMays.{evict_left_may}
-use Rattle.row_facts.proofs.LeaveRows.LeftRows.{prompts_none}
-use Rattle.row_facts.specs.FrameRows.Discarding.{SettlesNone}
 use Rattle.row_facts.specs.LeaveRows.MayLeave.{PromptsLater}
 use Rattle.row_facts.specs.LeaveRows.Evicting.{IsDiscardedLater, IsKeptLast, is_evicting, is_last as is_its_last}
 use Rattle.log_model.specs.AfterPlaces.{without_doc}
@@ -24,7 +21,7 @@ use Rattle.log_model.specs.declared.row_kind.LogRow.{LogRow}
 use Rattle.log_model.specs.declared.row_kind.RowKind.{RowKind}
 use Rattle.seen_laws.proofs.InEvents.{led_here, now_is, uncut_first}
 use Rattle.seen_laws.proofs.Keyed.{find_has as seen_number}
-use Rattle.seen_laws.specs.Blocks.{Here, MayLog}
+use Rattle.seen_laws.specs.Blocks.{EachPass, Here, MayLog}
 use Rattle.seen_laws.specs.InEvent.{InEvent, here_of, now_of, row_of, start_of}
 use Rattle.seen_laws.specs.Sending.{leads}
 use Rattle.std.proofs.Common.{Bool, List, None, Option, Some, [], ap, arith, cond, false, inl, inr, not, refl, subst, sym, true, ℕ, ◌==◌, ◌∙◌, ◌∷◌, ◌≡◌}
@@ -35,6 +32,7 @@ use Rattle.tab_doors.specs.Orders.{order_to, proc_at}
 use Rattle.tab_doors.specs.declared.tables.Tables.{Tables}
 use Rattle.tab_ids.specs.declared.DocId.{DocId}
 use Rattle.tab_ids.specs.declared.NavId.{NavId}
+use Rattle.tab_ids.specs.declared.ReqId.{ReqId}
 use Rattle.tab_ids.specs.declared.StateId.{StateId}
 use Rattle.tab_passes.proofs.Unders.{into_docs}
 use Rattle.user_evicts.specs.Discarding.{IsEvicted}
@@ -186,21 +184,20 @@ module _ (e : InEvent) (t : Tables) (doc : DocId) (state : StateId) (its : IsEvi
   evicting = ap (λ (row : LogRow). is_evicting (row ∷ [])) own_row
 
   -- the document as the log has it: an eviction is for no request, so it may be left
-  left_as : IsLeftAs e [] discard its.document
+  pub left_as : IsLeftAs e [] discard its.document
   left_as = discards_log e [] (now_is e []) discard its.document (λ req why. cc) its.discards
 
-  -- nobody is asked, so no prompt is due
-  no_prompts : (later : List LogRow) → PromptsLater (here_of e []) (row_of e (rows.Sent discard)) later
-  no_prompts later =
-      prompts_none (here_of e []) (row_of e (rows.Sent discard)) (subst (λ (x : Seen). SettlesNone x (row_of e (rows.Sent discard))) (sym its.aside.plain) (its.settles (row_of e (rows.Sent discard)))) later
+  -- the order passes, if the prompts come that it makes due
+  pub second_passes : (later : List LogRow) → PromptsLater (here_of e []) (row_of e (rows.Sent discard)) later → EachPass (here_of e []) (row_of e (rows.Sent discard) ∷ []) later
+  second_passes later prompts =
+      evict_left_may (here_of e []) e.event e.actor discard left_as.d (led_here e [] own_leads) (numbered_log e [] (now_is e []) discard (numbered n (proc_at n doc) doc whys.Evict tasks.Discard its.known)) (newly_left n later) (kept_last_log e [] (now_is e []) discard its.document left_as (newly_left n later) (due_for (newly_left n later) (λ x is. left_last n later x is))) (subst (λ (h : Here). is_evicting h.done ≡ true) (sym (uncut_first e its.aside.uncut)) evicting) later (prompts, sym (leaves_log e [] (now_is e []) later))
 
-  second_may : MayLog (here_of e []) (row_of e (rows.Sent discard) ∷ []) (IsRestOf e (rows.Sent discard ∷ []))
-  second_may later rest =
-      evict_left_may (here_of e []) e.event e.actor discard left_as.d (led_here e [] own_leads) (numbered_log e [] (now_is e []) discard (numbered n (proc_at n doc) doc whys.Evict tasks.Discard its.known)) (newly_left n later) (kept_last_log e [] (now_is e []) discard its.document left_as (newly_left n later) (due_for (newly_left n later) (λ x is. left_last n later x is))) (subst (λ (h : Here). is_evicting h.done ≡ true) (sym (uncut_first e its.aside.uncut)) evicting) later (no_prompts later, sym (leaves_log e [] (now_is e []) later))
+  -- the event's own row passes, if the document is discarded later
+  pub own_passes : (todo : ReqId → Option DocId) → PassIf (IsDiscardedLater doc) e todo []
+  unfolding PassIf
+  own_passes todo later rest = uncut_pass e [] later its.aside.uncut (first_may later rest.1)
 
-  pub evicted_lawful : AreLawful e (rows.Sent discard ∷ [])
-  unfolding AreLawful
-  evicted_lawful later rest =
-      uncut_pass e (rows.Sent discard ∷ []) later its.aside.uncut
-      (evicted_ahead (start_of e) (row_of e e.own) [] (row_of e (rows.Sent discard)) (IsRestOf e (rows.Sent discard ∷ []))
-      (subst (λ (h : Here). MayLog h (row_of e (rows.Sent discard) ∷ []) (IsRestOf e (rows.Sent discard ∷ []))) (uncut_first e its.aside.uncut) second_may) doc first_may (discard_discards doc e.event e.actor discard refl refl) later rest)
+  -- as it is by the order
+  pub discarded_next : (later : List LogRow) → IsDiscardedLater doc (row_of e (rows.Sent discard) ∷ later)
+  discarded_next later =
+      discarded_by doc [] (row_of e (rows.Sent discard)) later (discard_discards doc e.event e.actor discard refl refl)

@@ -5,6 +5,9 @@ use Rattle.checking_facts.proofs.Besides.{ends_more}
 use Rattle.checking_facts.proofs.Cases.{other_wakes}
 use Rattle.checking_facts.proofs.Rows.{row_checks}
 use Rattle.checking_facts.specs.Checks.{AreInCheck}
+use Rattle.checking_facts.specs.Prompts.{PassIf, noted_in}
+use Rattle.row_facts.specs.LeaveRows.Evicting.{IsDiscardedLater}
+use Rattle.tab_doors.proofs.Leavable.{IsLeftAs}
 use Rattle.nav_tree.specs.Tree.{discarded}  -- keep
 use Rattle.seen_facts.proofs.Hang.Members.{into_map}
 use Rattle.seen_facts.specs.Hang.Members.{Has}
@@ -25,9 +28,8 @@ use Rattle.seen_laws.specs.InEvent.{InEvent, log_of, now_of, row_of}
 use Rattle.seen_laws.specs.Sending.{leads}
 use Rattle.std.proofs.Common.{List, None, Option, Some, [], ap, false, length, refl, subst, sym, true, ℕ, ◌++◌, ◌+◌, ◌==◌, ◌∙◌, ◌∷◌, ◌≡◌, ◌≤◌}
 use Rattle.std.proofs.lemmas.List.{length-map}
-use Rattle.tab_doors.proofs.PassedOn.{lawful_pass}
 use Rattle.tab_doors.specs.PassedOn.{AreAskedDuly, noted_by, told_by}
-use Rattle.checking_facts.proofs.Steps.{more_duly}
+use Rattle.checking_facts.proofs.Steps.{more_duly, more_pass}
 use Rattle.unload_check.specs.Checks.{OpenCheck}
 use Rattle.row_facts.proofs.FrameRows.Discards.{discard_quiet}
 use Rattle.row_facts.proofs.FrameRows.LawfulLaws.{keeps_held}
@@ -50,7 +52,7 @@ use Rattle.tab_ids.specs.declared.NavId.{NavId}
 use Rattle.tab_ids.specs.declared.ProcId.{ProcId}
 use Rattle.tab_ids.specs.declared.ReqId.{ReqId}
 use Rattle.tab_ids.specs.declared.StateId.{StateId}
-use Rattle.user_evicts.proofs.Lawful.{discard, evicted_lawful}
+use Rattle.user_evicts.proofs.Lawful.{discard, discarded_next, left_as, own_passes, second_passes}
 use Rattle.user_evicts.specs.Discarding.{IsEvicted}
 use Rattle.log_model.specs.declared.job.Task.TheVariants as tasks
 use Rattle.log_model.specs.declared.job.Why.TheVariants as whys
@@ -95,7 +97,7 @@ module _ (e : InEvent) (t u : Tables) (doc : DocId) (state : StateId) (tied : Ar
         loads = subst (λ (x : Seen). TiesLoads x u.loads) now_then (subst (λ (l : List Load). TiesLoads then_ l) (sym one.loads) (gone_tied n e.event e.actor t.loads tied.loads order refl unloaded));
         kept = kept_gone n doc (λ (x : Document). record x { is_discarded = true }) (λ x. refl) (λ x. refl) state its.own_state None t.kept u.kept tied.kept refl kept ∙ ap (λ (x : Seen). kept_states x) now_then;
         asked = asked_then one.checks;
-        lawful = lawful_pass (IsToCome None e (rows.Sent order ∷ [])) e (noted_by u.checks (rows.Sent order ∷ [])) (rows.Sent order ∷ []) (evicted_lawful e t doc state its);
+        lawful = passes_then one.checks;
       }
     where
       checks_ : AreInCheck e.checking (log_of e (rows.Sent order ∷ []))
@@ -103,14 +105,23 @@ module _ (e : InEvent) (t u : Tables) (doc : DocId) (state : StateId) (tied : Ar
           subst (λ (x : Seen). AreInCheck e.checking x) (sym (log_more e [] (rows.Sent order)))
           (row_checks e.checking (log_of e []) (row_of e (rows.Sent order)) (other_wakes e.checking (log_of e []) order (λ req is. its.aside.unchecked req)) tt its.logged.checking)
 
-      there : document_of (log_of e []) doc ≡ Some its.gone.document
-      there = subst (λ (x : Seen). document_of x doc ≡ Some its.gone.document) (sym its.aside.plain) its.gone.found
+      -- the document as the log has it
+      left : IsLeftAs e [] order its.document
+      left = left_as e t doc state its
+
+      there : document_of (log_of e []) doc ≡ Some left.d
+      there = left.discards.to.found
 
       asked_then : u.checks ≡ t.checks → AreAskedDuly e.checking e.start (log_of e (rows.Sent order ∷ [])) (told_by u.checks (rows.Sent order ∷ []))
       asked_then same =
           subst (λ (x : Seen). AreAskedDuly e.checking e.start x (told_by u.checks (rows.Sent order ∷ []))) (sym (log_more e [] (rows.Sent order)))
           (subst (λ (es : List (ReqId × OpenCheck)). AreAskedDuly e.checking e.start (after (log_of e []) (row_of e (rows.Sent order))) (told_by es (rows.Sent order ∷ []))) (sym same)
-          (more_duly e [] (told_by t.checks []) its.logged.asked (rows.Sent order) (its.gone.document, there) (discard_quiet e order refl) (keeps_held e [] (rows.Sent order) refl refl) (IsAhead None) (IsAhead None) (λ later is. tt) (subst (λ (x : Seen). AllOthersPass e.checking x) (log_more e [] (rows.Sent order)) checks_.others)))
+          (more_duly e [] (told_by t.checks []) its.logged.asked (rows.Sent order) (left.d, there) (discard_quiet e order refl) (keeps_held e [] (rows.Sent order) refl refl) (IsAhead None) (IsAhead None) (λ later is. tt) (subst (λ (x : Seen). AllOthersPass e.checking x) (log_more e [] (rows.Sent order)) checks_.others)))
+
+      passes_then : u.checks ≡ t.checks → PassIf (IsToCome None e (rows.Sent order ∷ [])) e (noted_by u.checks (rows.Sent order ∷ [])) (rows.Sent order ∷ [])
+      passes_then same =
+          subst (λ (es : List (ReqId × OpenCheck)). PassIf (IsToCome None e (rows.Sent order ∷ [])) e (noted_by es (rows.Sent order ∷ [])) (rows.Sent order ∷ [])) (sym same)
+          (more_pass e [] (told_by t.checks []) its.logged.asked (rows.Sent order) (left.d, there) (discard_quiet e order refl) (keeps_held e [] (rows.Sent order) refl refl) (IsDiscardedLater doc) (IsToCome None e (rows.Sent order ∷ [])) (λ later is. discarded_next e t doc state its later) (own_passes e t doc state its (noted_in (told_by t.checks []))) (λ later asks rest prompts. second_passes e t doc state its later prompts))
 
 -- ---- the order that is counted and put out
 

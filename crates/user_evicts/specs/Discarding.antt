@@ -6,9 +6,7 @@ use Rattle.seen_facts.proofs.Kept.States.{AreOfOwnStates}
 use Rattle.seen_facts.specs.Kept.Keeping.{is_last}
 use Rattle.row_facts.specs.LeaveRows.Evicting.{IsEvictDue}
 use Rattle.row_facts.specs.LeaveRows.Leaving.{IsDiscardOf}
-use Rattle.row_facts.specs.FrameRows.Discarding.{SettlesNone}
 use Rattle.log_model.specs.Seen.{Document, Place, desk_of, place_of}
-use Rattle.log_model.specs.declared.row_kind.LogRow.{LogRow}
 use Rattle.seen_laws.specs.InEvent.{InEvent, now_of}
 use Rattle.std.specs.Prelude.{Some, [], false, ◌≡◌}
 use Rattle.tab_doors.specs.Orders.{IsToGo, order_to, proc_at}
@@ -21,7 +19,7 @@ use Rattle.log_model.specs.declared.job.Why.TheVariants as whys
 use Rattle.log_model.specs.declared.row_kind.Actor.TheVariants as actors
 use Rattle.log_model.specs.declared.row_kind.RowKind.TheVariants as rows
 
--- in this event, in which nobody is in a check, the user evicts the document state of this document, which is kept longest; nobody is awake on it, no navigable was shown it last, no document waits to be asked, and the tables have it for its state alone, which is no ongoing load's
+-- in this event, in which nobody is in a check, the user evicts the document state of this document, which is kept longest; nobody is awake on it, no navigable was shown it last, and the tables have it for its state alone, which is no ongoing load's
 pub record IsEvicted (e : InEvent) (t : Tables) (doc : DocId) (state : StateId) : Type 0 where
   pub aside : StartsUnasked e
   pub logged : IsLogged e t.checks
@@ -33,6 +31,5 @@ pub record IsEvicted (e : InEvent) (t : Tables) (doc : DocId) (state : StateId) 
   pub unshown : (nav : NavId) (place : Place) → place_of (now_of e []) nav ≡ Some place → is_last doc place ≡ false
   pub discards : IsDiscardOf (now_of e []) (order_to (now_of e []) doc whys.Evict tasks.Discard) document
   pub known : (desk_of (now_of e []) (proc_at (now_of e []) doc)).known ≡ 0
-  pub settles : (row : LogRow) → SettlesNone (now_of e []) row
   pub gone : IsToGo (now_of e []) t.tree t.loads [] doc state
   pub own_state : AreOfOwnStates (now_of e []).documents (now_of e []).kept doc state
