@@ -27,7 +27,7 @@ use Rattle.tab_doors.specs.Keeping.{LetsGo, Move, with_left}
 use Rattle.tab_doors.specs.Look.{Sight, is_live_for, sight}
 use Rattle.tab_doors.specs.Orders.{order_to, proc_at}
 use Rattle.tab_doors.specs.Ties.{birth_of, nav_in}
-use Rattle.tab_doors.specs.Working.{IsAtWorkFor, KeepsStore, MaySend}
+use Rattle.tab_doors.specs.Working.{IsAtWorkIn, KeepsStore, MaySend}
 use Rattle.tab_doors.specs.declared.tables.Tables.{Tables}
 use Rattle.tab_doors.specs.declared.birth.Birth.{Birth}
 use Rattle.tab_evicts.proofs.Cuts.{fitting_fits, fitting_leaves}
@@ -44,7 +44,7 @@ use Rattle.tab_ids.specs.declared.NavId.{NavId}
 use Rattle.tab_ids.specs.declared.StateId.{StateId}
 use Rattle.tab_passes.proofs.Lives.{live_parts, there_for}
 use Rattle.tab_passes.proofs.Stand.{depth_is}
-use Rattle.tab_passes.specs.Leaving.{IsLeaving, left_then}
+use Rattle.tab_passes.specs.Leaving.{IsLeavingIn, left_then}
 use Rattle.tab_passes.specs.Passing.{InPass}
 use Rattle.seen_facts.proofs.Walk.Placed.{found_nav}
 use Rattle.row_facts.proofs.WalkRows.Sleeping.{no_shower, nobody_awake}
@@ -52,8 +52,8 @@ use Rattle.log_model.specs.declared.job.Task.TheVariants as tasks
 use Rattle.log_model.specs.declared.row_kind.RowKind.TheVariants as rows
 
 -- such an order may be sent
-pub below_ahead : (e : InEvent) (out : List RowKind) (move : Option Move) (t : Tables) (doc : DocId) (why : Why) (d : Document) → IsAtWorkFor move e out t → MayBeLeft (here_of e out) (order_to (now_of e out) doc why tasks.Discard) → IsBelowDue (now_of e out) (order_to (now_of e out) doc why tasks.Discard) d → (desk_of (now_of e out) (proc_at (now_of e out) doc)).known ≡ 0 → MaySend move e out (order_to (now_of e out) doc why tasks.Discard)
-below_ahead e out move t doc why d work left due known later ahead =
+pub below_ahead : {sweeps : Bool} (e : InEvent) (out : List RowKind) (move : Option Move) (t : Tables) (doc : DocId) (why : Why) (d : Document) → IsAtWorkIn sweeps move e out t → MayBeLeft (here_of e out) (order_to (now_of e out) doc why tasks.Discard) → IsBelowDue (now_of e out) (order_to (now_of e out) doc why tasks.Discard) d → (desk_of (now_of e out) (proc_at (now_of e out) doc)).known ≡ 0 → MaySend move e out (order_to (now_of e out) doc why tasks.Discard)
+below_ahead {sweeps} e out move t doc why d work left due known later ahead =
     below_left_may (here_of e out) e.event e.actor order its.d (led_here e out work.own) (numbered_log e out (events.now_is e out) order (numbered (now_of e out) (proc_at (now_of e out) doc) doc why tasks.Discard known)) (below_log e out (events.now_is e out) order d its due) later (ahead.1, tt)
   where
     order : Job
@@ -223,7 +223,7 @@ module _ (l : InLetting) (gone : StateId) (why : Why) (out : List RowKind) (t : 
 
     -- ---- what it leaves
 
-    pub below_done : (new : List RowKind) (u : Tables) → new ≡ out ++ rows.Sent (order_to s doc why tasks.Discard) ∷ [] → KeepsStore t u → IsLeaving p move (left_then s doc []) new u → IsLetting l gone why new u
+    pub below_done : (new : List RowKind) (u : Tables) → new ≡ out ++ rows.Sent (order_to s doc why tasks.Discard) ∷ [] → KeepsStore t u → IsLeavingIn l.sweeps p move (left_then s doc []) new u → IsLetting l gone why new u
     below_done new u made keeps leaving_ =
         record {
           leaving = leaving;
@@ -237,7 +237,7 @@ module _ (l : InLetting) (gone : StateId) (why : Why) (out : List RowKind) (t : 
           free = so.free;
         }
       where
-        leaving : IsLeaving p move [] new u
+        leaving : IsLeavingIn l.sweeps p move [] new u
         leaving = gone_leaving p move out t so.leaving why so.may doc its its_quiet new u made leaving_
 
         then_ : Seen

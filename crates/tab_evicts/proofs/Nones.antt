@@ -36,7 +36,7 @@ use Rattle.tab_ids.specs.declared.StateId.{StateId}
 use Rattle.tab_passes.proofs.Lives.{has_state_in}
 use Rattle.tab_passes.proofs.Stand.{depth_is}
 use Rattle.tab_passes.specs.Causes.{MayCause}
-use Rattle.tab_passes.specs.Leaving.{IsLeaving}
+use Rattle.tab_passes.specs.Leaving.{IsLeavingIn}
 use Rattle.tab_passes.specs.Passing.{InPass}
 use Rattle.log_model.specs.declared.job.Task.TheVariants as tasks
 use Rattle.log_model.specs.declared.row_kind.RowKind.TheVariants as rows
@@ -138,7 +138,7 @@ module _ (l : InLetting) (gone : StateId) (why : Why) (out : List RowKind) (t : 
 
 -- ---- one is discarded
 
-module _ (p : InPass) (move : Option Move) (out : List RowKind) (t : Tables) (leaving : IsLeaving p move [] out t) (why : Why) (may : MayCause (now_of p.event out) why) (doc : DocId) (state : StateId) (its : IsQuiet (now_of p.event out) t doc state) (gone : StateId) where
+module _ {sweeps : Bool} (p : InPass) (move : Option Move) (out : List RowKind) (t : Tables) (leaving : IsLeavingIn sweeps p move [] out t) (why : Why) (may : MayCause (now_of p.event out) why) (doc : DocId) (state : StateId) (its : IsQuiet (now_of p.event out) t doc state) (gone : StateId) where
   abbrev before : Seen
   before = now_of p.event out
 

@@ -23,7 +23,7 @@ use Rattle.tab_ids.specs.declared.DocId.{DocId}
 use Rattle.tab_ids.specs.declared.StateId.{StateId}
 use Rattle.tab_passes.proofs.LeftFor.{off_for, off_on}
 use Rattle.tab_passes.specs.Causes.{MayCause}
-use Rattle.tab_passes.specs.Leaving.{IsLeaving, WasOffOrLeft}
+use Rattle.tab_passes.specs.Leaving.{IsLeavingIn, WasOffOrLeft}
 use Rattle.tab_passes.specs.Passing.{InPass}
 
 -- where nobody falls asleep with it, nobody is awake on it
@@ -34,7 +34,7 @@ off_none s doc none = by_shower (shower_of s doc) refl none
     by_shower None is h = is
     by_shower (Some p) is h = absurd cc
 
-module _ (p : InPass) (move : Option Move) {docs : List DocId} (out : List RowKind) (t : Tables) (leaving : IsLeaving p move docs out t) (why : Why) (may : MayCause (now_of p.event out) why) (doc : DocId) (state : StateId) (its : IsQuiet (now_of p.event out) t doc state) (off : OffAreLeft p.event out why) where
+module _ {sweeps : Bool} (p : InPass) (move : Option Move) {docs : List DocId} (out : List RowKind) (t : Tables) (leaving : IsLeavingIn sweeps p move docs out t) (why : Why) (may : MayCause (now_of p.event out) why) (doc : DocId) (state : StateId) (its : IsQuiet (now_of p.event out) t doc state) (off : OffAreLeft p.event out why) where
   abbrev s : Seen
   s = now_of p.event out
 

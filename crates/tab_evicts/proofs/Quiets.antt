@@ -35,7 +35,7 @@ use Rattle.seen_facts.proofs.Request.Readers.{sent_reads}
 use Rattle.seen_facts.proofs.Rest.Still.{found_itself}
 use Rattle.seen_laws.proofs.Keyed.{find_has as seen_number, find_on_other}
 use Rattle.seen_laws.specs.InEvent.{now_of, row_of}
-use Rattle.std.proofs.Common.{List, None, Option, Some, [], ap, arith, false, inl, inr, map, refl, subst, sym, true, ℕ, ◌++◌, ◌==◌, ◌∙◌, ◌∷◌, ◌≡◌}
+use Rattle.std.proofs.Common.{List, None, Option, Some, [], ap, arith, false, inl, inr, map, refl, subst, sym, true, ℕ, ◌++◌, ◌==◌, ◌∙◌, ◌∷◌, ◌≡◌, Bool}
 use Rattle.std.proofs.lemmas.Bool.Decides.{nat_tests}
 use Rattle.std.specs.Prelude.{find, is_some, option_map}
 use Rattle.tab_doors.proofs.Keeping.{states_on}
@@ -54,7 +54,7 @@ use Rattle.tab_passes.proofs.Goings.{goes_on}
 use Rattle.tab_passes.proofs.Onlies.{only_one}
 use Rattle.tab_passes.proofs.Serveds.{served_causes}
 use Rattle.tab_passes.specs.Causes.{MayCause}
-use Rattle.tab_passes.specs.Leaving.{IsGoneAt, IsLeaving, MayLeave, left_then}
+use Rattle.tab_passes.specs.Leaving.{IsGoneAt, IsLeavingIn, MayLeave, left_then}
 use Rattle.tab_passes.specs.Passing.{InPass}
 use Rattle.log_model.specs.History.{has_nav}
 use Rattle.row_facts.proofs.WalkRows.Leaves.{discard_none_leaves, none_places}
@@ -123,7 +123,7 @@ no_loads s table ties state apart its =
         let two : Some has.load.state ≡ Some state = sym tied.state ∙ ap (λ (q : Asked). q.state) same ∙ its.own in
         cc
 
-module _ (p : InPass) (move : Option Move) {docs : List DocId} (out : List RowKind) (t : Tables) (leaving : IsLeaving p move docs out t) (why : Why) (may : MayCause (now_of p.event out) why) (doc : DocId) (state : StateId) (its : IsQuiet (now_of p.event out) t doc state) where
+module _ {sweeps : Bool} (p : InPass) (move : Option Move) {docs : List DocId} (out : List RowKind) (t : Tables) (leaving : IsLeavingIn sweeps p move docs out t) (why : Why) (may : MayCause (now_of p.event out) why) (doc : DocId) (state : StateId) (its : IsQuiet (now_of p.event out) t doc state) where
   abbrev s : Seen
   s = now_of p.event out
 
@@ -219,10 +219,10 @@ module _ (p : InPass) (move : Option Move) {docs : List DocId} (out : List RowKi
     pub gone_now : gone_seen ≡ now_of p.event new
     gone_now = sym (ap (λ (x : List RowKind). now_of p.event x) is ∙ sent_now p.event out discard refl)
 
-    pub gone_leaving : IsLeaving p move (left_then s doc docs) new u → IsLeaving p move (without_doc doc docs) new u
-    gone_leaving so = subst (λ (x : List DocId). IsLeaving p move (x ++ without_doc doc docs) new u) (below_none s doc its.nobody) so
+    pub gone_leaving : IsLeavingIn sweeps p move (left_then s doc docs) new u → IsLeavingIn sweeps p move (without_doc doc docs) new u
+    gone_leaving so = subst (λ (x : List DocId). IsLeavingIn sweeps p move (x ++ without_doc doc docs) new u) (below_none s doc its.nobody) so
 
-    pub gone_may : {rest : List DocId} → IsLeaving p move rest new u → MayCause (now_of p.event new) why
+    pub gone_may : {rest : List DocId} → IsLeavingIn sweeps p move rest new u → MayCause (now_of p.event new) why
     gone_may so =
         subst (λ (x : Seen). MayCause x why) gone_now
         (served_causes s p.event discard why (subst (λ (x : Seen). (req : ReqId) (q : Asked) → request_of x req ≡ Some q → may_go_on x req ≡ true) (sym gone_now) (goes_on (now_of p.event new) u.running so.going.tab.asked)) may)

@@ -29,7 +29,7 @@ use Rattle.tab_ids.specs.declared.NavId.{NavId}
 use Rattle.tab_ids.specs.declared.ReqId.{ReqId}
 use Rattle.tab_ids.specs.declared.StateId.{StateId}
 use Rattle.tab_passes.specs.Causes.{MayCause}
-use Rattle.tab_passes.specs.Leaving.{IsLeaving}
+use Rattle.tab_passes.specs.Leaving.{IsLeavingIn}
 pub use Rattle.tab_passes.specs.Leaving.{OffAreLeft}
 use Rattle.tab_passes.specs.Passing.{HasOnly, InPass}
 use Rattle.seen_facts.specs.Walk.Walking.{LeavesOthers}
@@ -105,17 +105,18 @@ pub record HasRoomBeside (m : InEvicting) (gone : StateId) (s : Seen) (keep : �
   pub beside : IsBeside s gone m
   pub room : length (left_first m.state (kept_states s)) ≤ keep
 
--- where one is: the move that has begun, if one has
+-- where one is: the move that has begun, if one has, and whether documents are swept
 pub record InLetting : Type 0 where
   pub pass : InPass
   pub moved : Option InEvicting
+  pub sweeps : Bool
 
 abbrev pub move_in : InLetting → Option Move
 move_in l = option_map (λ (m : InEvicting). m.move) l.moved
 
 -- the document of the state was discarded, and those below it may be; where a move has begun, there is room for all that are kept then
 pub record IsLetting (l : InLetting) (gone : StateId) (why : Why) (out : List RowKind) (t : Tables) : Type 0 where
-  pub leaving : IsLeaving l.pass (move_in l) [] out t
+  pub leaving : IsLeavingIn l.sweeps l.pass (move_in l) [] out t
   pub may : MayCause (now_of l.pass.event out) why
   pub were : WereShown (now_of l.pass.event out)
   pub loads : NoLoadBelow (now_of l.pass.event out) gone
@@ -124,12 +125,12 @@ pub record IsLetting (l : InLetting) (gone : StateId) (why : Why) (out : List Ro
   pub moving : (m : InEvicting) → l.moved ≡ Some m → HasRoomBeside m gone (now_of l.pass.event out) t.kept.keep
   -- who isn't shown wasn't as the event began, or is left duly
   pub off : OffAreLeft l.pass.event out why
-  -- no step was in its check as the event began or was cut
-  pub free : MayDiscardIn false l.pass.event
+  -- no step was in its check as the event began or was cut, or documents are swept
+  pub free : MayDiscardIn l.sweeps l.pass.event
 
 -- the same within a move
 abbrev pub letting_for : InEvicting → InLetting
-letting_for m = record { pass = m.pass; moved = Some m }
+letting_for m = record { pass = m.pass; moved = Some m; sweeps = false }
 
 abbrev pub IsEvicting : InEvicting → StateId → Why → List RowKind → Tables → Type 0
 IsEvicting m gone why out t = IsLetting (letting_for m) gone why out t

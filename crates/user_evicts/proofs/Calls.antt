@@ -92,12 +92,12 @@ module _ (e : InEvent) (state : StateId) (asks : IsEvictAsk e state) (t : Tables
         is : first ≡ rows.Sent (order_to n asks.doc whys.Evict tasks.Discard) ∷ []
         is = put ∙ ap (λ (d : DocId). let l : List RowKind = rows.Sent (order_to n d whys.Evict tasks.Discard) ∷ [] in l) (sym doc_is)
 
-        letting : IsLetting (record { pass = record { event = e; loads = check.loads; hand = [] }; moved = None }) state whys.Evict first v
+        letting : IsLetting (record { pass = record { event = e; loads = check.loads; hand = [] }; moved = None; sweeps = false }) state whys.Evict first v
         letting = first_letting e state asks t queue blame stands aside logged logs room first v is keeps work
 
-        pub letting_as : IsLetting (record { pass = record { event = e; loads = check.loads; hand = [] }; moved = None }) own whys.Evict first v
+        pub letting_as : IsLetting (record { pass = record { event = e; loads = check.loads; hand = [] }; moved = None; sweeps = false }) own whys.Evict first v
         letting_as =
-            subst (λ (x : StateId). IsLetting (record { pass = record { event = e; loads = check.loads; hand = [] }; moved = None }) x whys.Evict first v) (sym (longest_is own at)) letting
+            subst (λ (x : StateId). IsLetting (record { pass = record { event = e; loads = check.loads; hand = [] }; moved = None; sweeps = false }) x whys.Evict first v) (sym (longest_is own at)) letting
 
         -- ---- and so were those below it
 
@@ -109,9 +109,9 @@ module _ (e : InEvent) (state : StateId) (asks : IsEvictAsk e state) (t : Tables
           kept_as =
               record { store = then_.store ∙ keeps.store; running = then_.running ∙ keeps.running; goal = then_.goal ∙ keeps.goal; keep = then_.keep ∙ keeps.keep; checks = then_.checks ∙ keeps.checks }
 
-          pub ready_as : t.kept.keep ≡ e.header.keep → IsLetting (record { pass = record { event = e; loads = check.loads; hand = [] }; moved = None }) own whys.Evict out u → IsReady (record { event = e; loads = check.loads; hand = [] }) out u queue blame whys.Evict
+          pub ready_as : t.kept.keep ≡ e.header.keep → IsLetting (record { pass = record { event = e; loads = check.loads; hand = [] }; moved = None; sweeps = false }) own whys.Evict out u → IsReady (record { event = e; loads = check.loads; hand = [] }) out u queue blame whys.Evict
           ready_as header so =
-              evicted_ready e state asks t queue blame stands aside logged logs room header out u kept_as (subst (λ (x : StateId). IsLetting (record { pass = record { event = e; loads = check.loads; hand = [] }; moved = None }) x whys.Evict out u) (longest_is own at) so) only (stays_then n (now_of e first) (now_of e out) (first_stays e state asks t queue blame stands aside logged logs room first v is) stays)
+              evicted_ready e state asks t queue blame stands aside logged logs room header out u kept_as (subst (λ (x : StateId). IsLetting (record { pass = record { event = e; loads = check.loads; hand = [] }; moved = None; sweeps = false }) x whys.Evict out u) (longest_is own at) so) only (stays_then n (now_of e first) (now_of e out) (first_stays e state asks t queue blame stands aside logged logs room first v is) stays)
 
           unkept : has_doc (now_of e out).kept asks.doc ≡ false
           unkept = by_test (has_doc (now_of e out).kept asks.doc) refl
@@ -135,6 +135,6 @@ module _ (e : InEvent) (state : StateId) (asks : IsEvictAsk e state) (t : Tables
                 task = refl;
                 why = refl;
                 only = only;
-                none = none_there (record { pass = record { event = e; loads = check.loads; hand = [] }; moved = None }) state whys.Evict first v letting n (now_of e out) docs t.tree (below_listed e state asks t queue blame stands aside logged logs room) order (first_fewer e state asks t queue blame stands aside logged logs room first v is) (subst (λ (x : StateId). NoMoreBelow x (now_of e first) (now_of e out)) (longest_is own at) fewer) (subst (λ (x : StateId). NoneOfBelow docs (now_of e out) x) (longest_is own at) none);
+                none = none_there (record { pass = record { event = e; loads = check.loads; hand = [] }; moved = None; sweeps = false }) state whys.Evict first v letting n (now_of e out) docs t.tree (below_listed e state asks t queue blame stands aside logged logs room) order (first_fewer e state asks t queue blame stands aside logged logs room first v is) (subst (λ (x : StateId). NoMoreBelow x (now_of e first) (now_of e out)) (longest_is own at) fewer) (subst (λ (x : StateId). NoneOfBelow docs (now_of e out) x) (longest_is own at) none);
                 unkept = unkept;
               }

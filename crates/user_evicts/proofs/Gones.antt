@@ -227,7 +227,7 @@ module _ (e : InEvent) (state : StateId) (asks : IsEvictAsk e state) (t : Tables
     pub first_unkept : has_doc (now_of e new).kept doc ≡ false
     first_unkept = subst (λ (x : Seen). has_doc x.kept doc ≡ false) now_is (without_itself doc n.kept)
 
-    pub first_letting : KeepsStore t u → IsAtWork e new u → IsLetting (record { pass = record { event = e; loads = check.loads; hand = [] }; moved = None }) state whys.Evict new u
+    pub first_letting : KeepsStore t u → IsAtWork e new u → IsLetting (record { pass = record { event = e; loads = check.loads; hand = [] }; moved = None; sweeps = false }) state whys.Evict new u
     first_letting keeps work =
         record {
           leaving = record {

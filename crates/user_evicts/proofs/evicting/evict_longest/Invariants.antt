@@ -1,4 +1,4 @@
-use Rattle.std.proofs.Common.{None}
+use Rattle.std.proofs.Common.{None, false}
 use Rattle.user_evicts.proofs.evicting.evict_longest.Given as goal
 use Rattle.user_evicts.specs.Evicting.{pass_in}
 
@@ -6,4 +6,4 @@ abbrev pub ghost-discard_evicted : goal.ghost-discard_evicted
 ghost-discard_evicted g a = g.b.event
 
 abbrev pub ghost-discard_below : goal.ghost-discard_below
-ghost-discard_below g a = record { pass = pass_in g.b; moved = None }
+ghost-discard_below g a = record { pass = pass_in g.b; moved = None; sweeps = false }
