@@ -98,4 +98,4 @@ settled_acts e was out c after cause last to header slots at due put left =
 
     all : tab.HasActed tab.none_in_check e out (record after.tables { checks = told_all after.tables.checks out }) after.queue after.blame.entries
     all =
-        acted (pass_of e []) out after.tables after.queue after.blame.entries last false (λ never. absurd cc) at (put_makes e after.tables.running was out at.passing.work.goes at.passing.going.tab.asked put to.makes) (put_sound e was out at.passing.work.goes put to.sound) (of_coord e was out put to.coord) to.shows to.known settled_all (nothing_wanted e out to.unwanted) (λ free. none_due due) (taken_in e was out put to.taken)
+        acted (pass_of e []) out after.tables after.queue after.blame.entries last false (λ never. absurd cc) at (put_makes e after.tables.running was out at.passing.work.goes at.passing.going.tab.asked put to.makes) (put_sound e was out at.passing.work.goes put to.sound) (of_coord e was out put to.coord) (λ pass. to.shows) (λ pass. to.known) settled_all (nothing_wanted e out to.unwanted) (λ free. none_due due) (taken_in e was out put to.taken)

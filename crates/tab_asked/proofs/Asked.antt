@@ -123,7 +123,7 @@ module _ (p : InPass) (out : List RowKind) (t : Tables) (queue : Queue) (blame :
   -- as the tab has come to rest, without it
   before : HasActed check e out (record t { checks = told_all t.checks out }) queue blame
   before =
-      acted p out t queue blame cause true (λ held. over.idle) at makes sound of_coord shows known settled wanted (λ never. absurd cc) taken
+      acted p out t queue blame cause true (λ held. over.idle) at makes sound of_coord (λ pass. shows) (λ pass. known) settled wanted (λ never. absurd cc) taken
 
   tab : IsTab t.running p.loads p.hand s
   tab = at.passing.going.tab

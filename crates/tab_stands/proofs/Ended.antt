@@ -140,7 +140,7 @@ as_stands check s t checks queue blame stands =
       parked = stands.parked;
     }
 
-module _ (p : InPass) (out : List RowKind) (t : Tables) (queue : Queue) (blame : List (StateId × ReqId)) (cause : Why) (waits : Bool) (alone : NoneRunsWhileHeld waits t.running) (at : HasSettled p out t queue blame cause) (makes : MakesServe (now_of p.event out)) (sound : OrdersAreSound (now_of p.event out)) (of_coord : (row : RowKind) → Has out row → IsOfCoord row) (shows : AreShownUnder (log_of p.event [])) (known : AskingKnown (log_of p.event [])) (settled : IsAllTied (log_of p.event out) (told_all t.checks out)) (wanted : EndAsWanted p.event out) where
+module _ (p : InPass) (out : List RowKind) (t : Tables) (queue : Queue) (blame : List (StateId × ReqId)) (cause : Why) (waits : Bool) (alone : NoneRunsWhileHeld waits t.running) (at : HasSettled p out t queue blame cause) (makes : MakesServe (now_of p.event out)) (sound : OrdersAreSound (now_of p.event out)) (of_coord : (row : RowKind) → Has out row → IsOfCoord row) (shows : EachPass (start_of p.event) (rows_of p.event out) [] → AreShownUnder (log_of p.event [])) (known : EachPass (start_of p.event) (rows_of p.event out) [] → AskingKnown (log_of p.event [])) (settled : IsAllTied (log_of p.event out) (told_all t.checks out)) (wanted : EndAsWanted p.event out) where
   abbrev s : Seen
   s = now_of p.event out
 
@@ -182,7 +182,13 @@ module _ (p : InPass) (out : List RowKind) (t : Tables) (queue : Queue) (blame :
   -- what lasts of the log itself
   lasts_log : IsTakenIn p.event (later_of p.event out) → LastsInLog p.event.checking (log_of p.event out)
   lasts_log taken =
-      record { checks = at.passing.work.checks; shows = event_under p.event out (passes taken).1 of_coord shows; duly = at.passing.duly; known = known_end p.event out at.passing.work.goes of_coord (passes taken) known }
+      let pass = passes taken in
+      record {
+        checks = at.passing.work.checks;
+        shows = event_under p.event out pass.1 of_coord (shows pass);
+        duly = at.passing.duly;
+        known = known_end p.event out at.passing.work.goes of_coord pass (known pass);
+      }
 
   -- navigables are the same in both
   once : IsTakenIn p.event (later_of p.event out) → AreShownOnce s.places

@@ -35,3 +35,4 @@ pub mod PassedOn
 pub mod DulyEvents
 pub mod Logged
 pub mod Applied
+pub mod GoingOn
