@@ -1,3 +1,4 @@
+pub mod OpenAmong
 pub mod FlowsTaken
 pub mod Unmoved
 pub mod Where

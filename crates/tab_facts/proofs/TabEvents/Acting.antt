@@ -20,7 +20,7 @@ use Rattle.tab_facts.proofs.TabEvents.Requests.{AreLeft, others_left}
 use Rattle.tab_facts.proofs.TabEvents.Rows.{made_left}
 use Rattle.seen_laws.specs.Acting.{IsNoEdit}
 use Rattle.tab_facts.specs.TabEvents.Between.{IsBetweenChecks}
-use Rattle.tab_facts.specs.TabWhole.Tab.{at_hand}
+use Rattle.tab_facts.specs.TabWhole.Tab.{at_hand, open_among}
 use Rattle.tab_ids.specs.declared.ProcId.{ProcId}
 use Rattle.tab_ids.specs.declared.ReqId.{ReqId}
 use Rattle.tab_facts.proofs.TabWhole.Acting.{IsActing, acted, acted_flows, acted_tab, not_running, unjoined, unmade_flows, unmade_tab, unparked, unpoked}
@@ -57,7 +57,7 @@ module _ (keep : ℕ) (run : Option ReqId) {loads : List ReqId} {holds : Bool} (
     -- its request is no load
     no_load : (q : Asked) → request_in s.requests poke.req ≡ Some q → is_ongoing_load q ≡ false
     no_load q there =
-        let known : IsPoke (core_of (request_in s.requests poke.req)) poke = first_poke s (at_hand loads []) proc poke first is.tab.once is.tab.known in
+        let known : IsPoke (core_of (request_in s.requests poke.req)) poke = first_poke s (at_hand (open_among s.requests loads) []) proc poke first is.tab.once is.tab.known in
         let same : core q ≡ _ = some_same (sym (ap core_of there) ∙ known.is) in
         neither (is_under_way q) (is_load q.what) (ap (λ (c : Core). is_load c.what) same)
 

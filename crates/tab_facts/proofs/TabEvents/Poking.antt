@@ -28,7 +28,7 @@ use Rattle.tab_ids.specs.declared.ReqId.{ReqId}
 use Rattle.tab_facts.proofs.TabWhole.Accepting.{poked, poked_flows, poked_tab, strayed, strayed_tab}
 use Rattle.tab_facts.proofs.TabWhole.Ending.{IsNoProcess}
 use Rattle.tab_facts.proofs.TabWhole.Straying.{stray_flows, stray_tab, turned_away}
-use Rattle.tab_facts.specs.TabWhole.Tab.{IsTab, at_hand}
+use Rattle.tab_facts.specs.TabWhole.Tab.{IsTab, at_hand, open_among}
 use Rattle.log_model.specs.declared.outcome.Ending.TheVariants as endings
 use Rattle.log_model.specs.declared.request.Request.TheVariants as requests
 
@@ -88,7 +88,7 @@ module _ (keep : ℕ) (run : Option ReqId) {loads : List ReqId} {holds : Bool} (
     other = sym (first_tab.asked.only req lost_ (one_more s.requests lost_ req nr))
 
     -- it was nowhere before
-    nowhere : times_found req s.desks s.joined s.parked (at_hand loads []) ≡ 0
+    nowhere : times_found req s.desks s.joined s.parked (at_hand (open_among s.requests loads) []) ≡ 0
     nowhere =
         let none : request_in s.requests req ≡ None = none_before s.requests lost_ req nr in
         is.tab.once req (rw none refl) ∙ rw none refl

@@ -1,4 +1,6 @@
 -- All that holds of a tab between two rows holds after a request is accepted with the next number, whichever loads are at hand: a traversal joins the queue, a load is at hand, a poke joins the input of its document's process, and one that reaches no document is at hand, too.
+use Rattle.seen_facts.specs.LoadWhereabouts.Whereabouts.{AreLoadsOnce}
+use Rattle.log_model.specs.Equal.{holds}
 use Rattle.log_model.specs.declared.made.Made.{Made}
 use Rattle.tab_facts.specs.Past.Past.{ArePast}
 use Rattle.tab_facts.proofs.Past.Places.{same_last}
@@ -21,7 +23,7 @@ use Rattle.seen_facts.proofs.LoadWhereabouts.Begun.{accepted_load, accepted_othe
 use Rattle.seen_facts.proofs.LoadWhereabouts.Counts.{at_hand_else}
 use Rattle.seen_facts.proofs.LoadWhereabouts.Others.{accepted_load_once}
 use Rattle.log_model.specs.After.{new_request}
-use Rattle.log_model.specs.Seen.{Document, Seen, document_of, request_in}
+use Rattle.log_model.specs.Seen.{Document, Seen, document_of, request_in, Asked}
 use Rattle.log_model.specs.declared.action.Action.{Action}
 use Rattle.log_model.specs.declared.request.Mode.{Mode}
 use Rattle.log_model.specs.declared.request.Request.{Request}
@@ -35,15 +37,16 @@ use Rattle.seen_facts.proofs.Request.LookUps.{none_before, one_more, others_befo
 use Rattle.seen_facts.proofs.Request.Placings.{go_once, poke_once, stray_once}
 use Rattle.seen_facts.specs.Request.Cores.{core_of}
 use Rattle.seen_facts.specs.Request.Knowns.{AreKnown}
-use Rattle.seen_facts.specs.Request.Whereabouts.{is_of_load, times_found}
+use Rattle.seen_facts.specs.Request.Whereabouts.{is_of_load, times_found, AreOnce}
 use Rattle.seen_facts.proofs.Rest.Kept.{left_kept}
 use Rattle.tab_facts.proofs.Shown.Rows.{accepted_shown}
-use Rattle.std.proofs.Common.{List, None, Option, Some, [], ap, arith, false, length, refl, ℕ, ℤ, ◌+◌, ◌++◌, ◌==◌, ◌∙◌, ◌∷◌, ◌≡◌}
+use Rattle.std.proofs.Common.{List, None, Option, Some, [], ap, arith, false, length, refl, ℕ, ℤ, ◌+◌, ◌++◌, ◌==◌, ◌∙◌, ◌∷◌, ◌≡◌, subst, sym}
 use Rattle.std.proofs.lemmas.Bool.Decides.{nat_tests}
 use Rattle.tab_ids.specs.declared.DocId.{DocId}
 use Rattle.tab_ids.specs.declared.NavId.{NavId}
 use Rattle.tab_ids.specs.declared.ReqId.{ReqId}
-use Rattle.tab_facts.specs.TabWhole.Tab.{IsTab, at_hand}
+use Rattle.tab_facts.proofs.TabWhole.OpenAmong.{accepted_ends, once_on, open_first, open_same, trips_on}
+use Rattle.tab_facts.specs.TabWhole.Tab.{IsTab, at_hand, has_ended, open_among}
 use Rattle.seen_facts.proofs.Transit.Rows.{left_ways}
 use Rattle.log_model.specs.declared.request.Request.TheVariants as requests
 use Rattle.log_model.specs.declared.row_kind.RowKind.TheVariants as rows
@@ -59,6 +62,22 @@ module _ (run : Option ReqId) {loads : List ReqId} (s : Seen) (event : ℕ) (act
   accept_past : (doc : Option DocId) (what : Request) → ArePast [] (next s event actor (accepts doc what))
   accept_past doc what =
       still_past [] [] s (next s event actor (accepts doc what)) tab.docs (accepted_left s event actor req doc what) refl (same_last s.places) (ap (λ (l : List Made). l ++ []) (accepted_held s event actor req doc what)) tab.past
+
+  -- it is at hand, which hasn't ended, and the others are as they were
+  module _ (doc : Option DocId) (what : Request) where
+    abbrev accepted : Seen
+    accepted = next s event actor (accepts doc what)
+
+    newly : open_among accepted.requests (req ∷ loads) ≡ req ∷ open_among s.requests loads
+    newly =
+        open_first accepted.requests req loads (ap (λ (o : Option Asked). holds has_ended o) (one_more s.requests (new_request req doc what) req nr))
+        ∙ ap (λ (l : List ReqId). req ∷ l) (open_same s.requests accepted.requests loads (accepted_ends s event actor req nr doc what))
+
+    once_newly : AreOnce accepted (req ∷ at_hand (open_among s.requests loads) []) → AreOnce accepted (at_hand (open_among accepted.requests (req ∷ loads)) [])
+    once_newly = subst (λ (l : List ReqId). AreOnce accepted (at_hand l [])) (sym newly)
+
+    trips_newly : AreLoadsOnce accepted (req ∷ at_hand (open_among s.requests loads) []) → AreLoadsOnce accepted (at_hand (open_among accepted.requests (req ∷ loads)) [])
+    trips_newly = subst (λ (l : List ReqId). AreLoadsOnce accepted (at_hand l [])) (sym newly)
 
   -- ---- a traversal
 
@@ -85,9 +104,9 @@ module _ (run : Option ReqId) {loads : List ReqId} (s : Seen) (event : ℕ) (act
           queued = queued_after run s event actor tab.queued (accepts None (requests.Go delta)) tt;
           loading = accepted_loading s event actor tab.loading req None (requests.Go delta) nr;
           fragments = accepted_fragments s event actor tab.fragments req None (requests.Go delta) nr;
-          once = go_once s (at_hand loads []) event actor req nr delta tab.once;
-          trips = accepted_other s (at_hand loads []) event actor req nr tab.trips None (requests.Go delta) refl;
-          known = go_known s (at_hand loads []) event actor req nr tab.once delta tab.known;
+          once = once_on s went loads [] (accepted_ends s event actor req nr None (requests.Go delta)) (go_once s (at_hand (open_among s.requests loads) []) event actor req nr delta tab.once);
+          trips = trips_on s went loads [] (accepted_ends s event actor req nr None (requests.Go delta)) (accepted_other s (at_hand (open_among s.requests loads) []) event actor req nr tab.trips None (requests.Go delta) refl);
+          known = go_known s (at_hand (open_among s.requests loads) []) event actor req nr tab.once delta tab.known;
           desks = unpoked s event actor tab.desks req (requests.Go delta);
           ways = left_ways s event actor tab.ways (accepts None (requests.Go delta)) (accepted_left s event actor req None (requests.Go delta)) refl refl;
           entries = accepted_entries [] s event actor tab.entries req None (requests.Go delta);
@@ -108,7 +127,7 @@ module _ (run : Option ReqId) {loads : List ReqId} (s : Seen) (event : ℕ) (act
     load_accepted_flows = accept_flows None load
 
     -- it was nowhere before
-    nowhere : times_found req s.desks s.joined s.parked (at_hand loads []) ≡ 0
+    nowhere : times_found req s.desks s.joined s.parked (at_hand (open_among s.requests loads) []) ≡ 0
     nowhere =
         let none : request_in s.requests req ≡ None = none_before s.requests (new_request req None load) req nr in
         tab.once req (rw none refl) ∙ rw none refl
@@ -123,7 +142,7 @@ module _ (run : Option ReqId) {loads : List ReqId} (s : Seen) (event : ℕ) (act
             ap core_of (others_before s.requests (new_request req None load) req nr r other)
 
         known : AreKnown (record s { requests = s.requests ++ new_request req None (requests.Load nav mode address) ∷ [] })
-        known = known_else s (at_hand loads []) req nowhere load_accepted.requests others tab.known
+        known = known_else s (at_hand (open_among s.requests loads) []) req nowhere load_accepted.requests others tab.known
 
     pub load_accepted_tab : IsTab run (req ∷ loads) [] load_accepted
     load_accepted_tab =
@@ -141,8 +160,8 @@ module _ (run : Option ReqId) {loads : List ReqId} (s : Seen) (event : ℕ) (act
           queued = queued_after run s event actor tab.queued (accepts None load) tt;
           loading = accepted_loading s event actor tab.loading req None load nr;
           fragments = accepted_fragments s event actor tab.fragments req None load nr;
-          once = accepted_load_once s (at_hand loads []) event actor req nr nav mode address tab.once;
-          trips = accepted_load s (at_hand loads []) event actor req nr tab.trips nav mode address tab.once;
+          once = once_newly None load (accepted_load_once s (at_hand (open_among s.requests loads) []) event actor req nr nav mode address tab.once);
+          trips = trips_newly None load (accepted_load s (at_hand (open_among s.requests loads) []) event actor req nr tab.trips nav mode address tab.once);
           known = load_known;
           desks = unpoked s event actor tab.desks req load;
           ways = left_ways s event actor tab.ways (accepts None load) (accepted_left s event actor req None load) refl refl;
@@ -181,9 +200,9 @@ module _ (run : Option ReqId) {loads : List ReqId} (s : Seen) (event : ℕ) (act
             queued = queued_after run s event actor tab.queued (accepts (Some doc) poke) tt;
             loading = accepted_loading s event actor tab.loading req (Some doc) poke nr;
             fragments = accepted_fragments s event actor tab.fragments req (Some doc) poke nr;
-            once = poke_once s (at_hand loads []) event actor req nr doc d nav action found tab.once;
-            trips = accepted_other s (at_hand loads []) event actor req nr tab.trips (Some doc) poke refl;
-            known = poke_known s (at_hand loads []) event actor req nr tab.once doc d nav action found tab.known;
+            once = once_on s poked loads [] (accepted_ends s event actor req nr (Some doc) poke) (poke_once s (at_hand (open_among s.requests loads) []) event actor req nr doc d nav action found tab.once);
+            trips = trips_on s poked loads [] (accepted_ends s event actor req nr (Some doc) poke) (accepted_other s (at_hand (open_among s.requests loads) []) event actor req nr tab.trips (Some doc) poke refl);
+            known = poke_known s (at_hand (open_among s.requests loads) []) event actor req nr tab.once doc d nav action found tab.known;
             desks = poked_desks s event actor tab.desks req nav action doc d found;
             ways = left_ways s event actor tab.ways (accepts (Some doc) poke) (accepted_left s event actor req (Some doc) poke) refl refl;
             entries = accepted_entries [] s event actor tab.entries req (Some doc) poke;
@@ -214,9 +233,9 @@ module _ (run : Option ReqId) {loads : List ReqId} (s : Seen) (event : ℕ) (act
           queued = queued_after run s event actor tab.queued (accepts None poke) tt;
           loading = accepted_loading s event actor tab.loading req None poke nr;
           fragments = accepted_fragments s event actor tab.fragments req None poke nr;
-          once = stray_once s (at_hand loads []) event actor req nr nav action tab.once;
-          trips = at_hand_else strayed (at_hand loads []) req (ap is_of_load (one_more s.requests (new_request req None poke) req nr)) (accepted_other s (at_hand loads []) event actor req nr tab.trips None poke refl);
-          known = stray_known s (at_hand loads []) event actor req nr tab.once nav action tab.known;
+          once = once_newly None poke (stray_once s (at_hand (open_among s.requests loads) []) event actor req nr nav action tab.once);
+          trips = trips_newly None poke (at_hand_else strayed (at_hand (open_among s.requests loads) []) req (ap is_of_load (one_more s.requests (new_request req None poke) req nr)) (accepted_other s (at_hand (open_among s.requests loads) []) event actor req nr tab.trips None poke refl));
+          known = stray_known s (at_hand (open_among s.requests loads) []) event actor req nr tab.once nav action tab.known;
           desks = unpoked s event actor tab.desks req poke;
           ways = left_ways s event actor tab.ways (accepts None poke) (accepted_left s event actor req None poke) refl refl;
           entries = accepted_entries [] s event actor tab.entries req None poke;

@@ -35,7 +35,7 @@ use Rattle.seen_facts.proofs.LoadWhereabouts.Answered.{made_other}
 use Rattle.seen_facts.proofs.LoadWhereabouts.Ended.{poke_refused_loads}
 use Rattle.log_model.specs.After.{follows_finished, desks_made}
 use Rattle.log_model.specs.AfterRequests.{without_req}
-use Rattle.log_model.specs.Equal.{has_req}
+use Rattle.log_model.specs.Equal.{has_req, holds}
 use Rattle.log_model.specs.Places.{is_load}
 use Rattle.log_model.specs.Seen.{Asked, Document, Seen, desk_of, document_of, request_in, request_of}
 use Rattle.log_model.specs.Views.{View, made_by, made_for}
@@ -49,7 +49,7 @@ use Rattle.seen_facts.proofs.Request.KnownEnded.{poke_refused_known}
 use Rattle.seen_facts.proofs.Request.KnownMoved.{IsAlone, alone, first_poke, made_known}
 use Rattle.seen_facts.proofs.Request.Alls.{one_of_all}
 use Rattle.seen_facts.proofs.Request.Placings.{first_poked, made_once, one_if}
-use Rattle.seen_facts.proofs.Request.Times.{itself, times_none}
+use Rattle.seen_facts.proofs.Request.Times.{itself, times_none, times_append}
 use Rattle.seen_facts.specs.Request.Cores.{Core, core, core_of}
 use Rattle.seen_facts.specs.Request.Knowns.{IsPoke}
 use Rattle.seen_facts.specs.LoadWhereabouts.Whereabouts.{AreLoadsOnce}
@@ -67,10 +67,12 @@ use Rattle.tab_ids.specs.declared.NavId.{NavId}
 use Rattle.tab_ids.specs.declared.ProcId.{ProcId}
 use Rattle.tab_ids.specs.declared.ReqId.{ReqId}
 use Rattle.tab_facts.proofs.TabWhole.Where.{nothing_goes}
-use Rattle.tab_facts.specs.TabWhole.Tab.{IsTab, at_hand}
+use Rattle.tab_facts.proofs.TabWhole.OpenAmong.{ended_else, ended_itself, hands_left, made_ends, once_on, open_else, times_open, trips_on, unended_open}
+use Rattle.tab_facts.specs.TabWhole.Tab.{IsTab, at_hand, has_ended, open_among}
 use Rattle.seen_facts.proofs.Transit.Rows.{left_ways, made_ways}
 use Rattle.log_model.specs.declared.made.Report.TheVariants as reports
 use Rattle.log_model.specs.declared.made.What.TheVariants as whats
+use Rattle.log_model.specs.declared.outcome.Ending.TheVariants as endings
 use Rattle.log_model.specs.declared.request.Request.TheVariants as requests
 use Rattle.log_model.specs.declared.row_kind.Actor.TheVariants as actors
 use Rattle.log_model.specs.declared.row_kind.RowKind.TheVariants as rows
@@ -99,7 +101,7 @@ module _ (run : Option ReqId) {loads : List ReqId} (s : Seen) (proc : ProcId) (t
     pub unended : q.ending ≡ None
 
   pub its_asked : Asks
-  its_asked = by_found (request_in s.requests poke.req) refl (first_poke s (at_hand loads []) proc poke first tab.once tab.known)
+  its_asked = by_found (request_in s.requests poke.req) refl (first_poke s (at_hand (open_among s.requests loads) []) proc poke first tab.once tab.known)
     where
       by_found : (o : Option Asked) → request_in s.requests poke.req ≡ o → IsPoke (core_of o) poke → Asks
       by_found None e k = (let never : None ≡ Some _ = k.is in absurd cc)
@@ -124,8 +126,12 @@ module _ (run : Option ReqId) {loads : List ReqId} (s : Seen) (proc : ProcId) (t
   its_ending =
       ap (λ (o : Option Asked). option_and_then (λ (q : Asked). q.ending) o) its_asked.there ∙ its_asked.unended
 
+  pub its_open : holds has_ended (request_in s.requests poke.req) ≡ false
+  its_open =
+      ap (λ (o : Option Asked). holds has_ended o) its_asked.there ∙ unended_open its_asked.q its_asked.unended
+
   its_place : IsAlone s proc poke.req
-  its_place = alone s (at_hand loads []) proc poke first tab.once tab.known
+  its_place = alone s (at_hand (open_among s.requests loads) []) proc poke first tab.once tab.known
 
   -- it isn't held back, nor in the queue
   pub unparked : has_req s.parked poke.req ≡ false
@@ -141,8 +147,11 @@ module _ (run : Option ReqId) {loads : List ReqId} (s : Seen) (proc : ProcId) (t
       let here : times_at poke.req (desk_of s proc) ≤ over (times_at poke.req) s.desks = one_of_all (times_at poke.req) s.desks proc refl in
       let was : times poke.req (poked (desk_of s proc).input) ≡ one_if poke.req poke.req + times poke.req (poked (drop 1 (desk_of s proc).input)) = first_poked poke.req (desk_of s proc).input poke first in
       let small : times_due (request_in s.requests poke.req) < 2 = due_small (request_in s.requests poke.req) in
-      let all : times_found poke.req s.desks s.joined s.parked (at_hand loads []) ≡ times_due (request_in s.requests poke.req) = tab.once poke.req no_load in
-      times_none poke.req (at_hand loads []) (omega (arith, one, here, was, small, all))
+      let all : times_found poke.req s.desks s.joined s.parked (at_hand (open_among s.requests loads) []) ≡ times_due (request_in s.requests poke.req) = tab.once poke.req no_load in
+      let same : times poke.req (open_among s.requests loads) ≡ times poke.req loads = times_open s.requests poke.req loads its_open in
+      let now_ : times poke.req (at_hand (open_among s.requests loads) []) ≡ times poke.req (open_among s.requests loads) + 0 = times_append poke.req (open_among s.requests loads) [] in
+      let then_ : times poke.req (at_hand loads []) ≡ times poke.req loads + 0 = times_append poke.req loads [] in
+      times_none poke.req (at_hand loads []) (omega (arith, one, here, was, small, all, same, now_, then_))
 
   -- the document of the poke lives in the process
   lives : owning.LivesIn s.documents proc poke.doc
@@ -264,9 +273,9 @@ module _ (run : Option ReqId) {loads : List ReqId} (s : Seen) (proc : ProcId) (t
             queued = queued_after run s s.events (actors.Proc proc) tab.queued (rows.Made proc (made_for view poke.req what)) tt;
             loading = made_loading s s.events (actors.Proc proc) tab.loading proc (made_for view poke.req what) no_ongoing;
             fragments = made_other_fragments s s.events (actors.Proc proc) proc (made_for view poke.req what) no_load tab.fragments;
-            once = made_once s (at_hand loads []) s.events (actors.Proc proc) proc (made_for view poke.req what) poke first refl by_action.no_edit anew tab.once;
-            trips = made_other s (at_hand loads []) s.events (actors.Proc proc) proc (made_for view poke.req what) poke first refl no_load anew tab.trips;
-            known = made_known s (at_hand loads []) s.events (actors.Proc proc) proc (made_for view poke.req what) poke first refl (sym number) by_action.no_edit by_action.goes_ anew tab.once tab.known;
+            once = once_on s acted loads [] (made_ends s s.events (actors.Proc proc) proc (made_for view poke.req what)) (made_once s (at_hand (open_among s.requests loads) []) s.events (actors.Proc proc) proc (made_for view poke.req what) poke first refl by_action.no_edit anew tab.once);
+            trips = trips_on s acted loads [] (made_ends s s.events (actors.Proc proc) proc (made_for view poke.req what)) (made_other s (at_hand (open_among s.requests loads) []) s.events (actors.Proc proc) proc (made_for view poke.req what) poke first refl no_load anew tab.trips);
+            known = made_known s (at_hand (open_among s.requests loads) []) s.events (actors.Proc proc) proc (made_for view poke.req what) poke first refl (sym number) by_action.no_edit by_action.goes_ anew tab.once tab.known;
             desks = made_desks s s.events (actors.Proc proc) tab.desks proc (made_for view poke.req what) made_in anew;
             ways = made_ways s s.events (actors.Proc proc) tab.ways proc (made_for view poke.req what) anew;
             entries = poke_entries [] s s.events (actors.Proc proc) tab.entries proc (made_for view poke.req what) d view make anew;
@@ -300,9 +309,10 @@ module _ (run : Option ReqId) {loads : List ReqId} (s : Seen) (proc : ProcId) (t
         left_flows s unpoked (refused_left s event (actors.Proc proc) poke.req reason) refl refl refl (refused_held s event (actors.Proc proc) poke.req reason unparked) flows
 
     -- it isn't at hand, so whatever is stays so
-    stays : without_req poke.req (at_hand loads []) ≡ at_hand loads []
+    stays : at_hand (open_among unpoked.requests loads) [] ≡ without_req poke.req (at_hand (open_among s.requests loads) [])
     stays =
-        without_same (at_hand loads []) poke.req unhanded
+        ap (λ (l : List ReqId). at_hand l []) (sym (open_else unpoked.requests poke.req loads (ended_itself s.requests poke.req its_asked.q (endings.Refused reason) its_asked.there)))
+        ∙ hands_left s unpoked loads [] poke.req (ended_else s.requests poke.req (endings.Refused reason))
 
     pub unmade_tab : IsTab run loads [] unpoked
     unmade_tab =
@@ -320,9 +330,9 @@ module _ (run : Option ReqId) {loads : List ReqId} (s : Seen) (proc : ProcId) (t
           queued = queued_after run s event (actors.Proc proc) tab.queued (rows.Refused poke.req reason) not_running;
           loading = refused_loading s event (actors.Proc proc) tab.loading poke.req reason;
           fragments = refused_fragments s event (actors.Proc proc) tab.fragments poke.req reason (other_waits_not s tab.fragments poke.req no_load);
-          once = subst (λ (l : List ReqId). AreOnce unpoked l) stays (poke_refused_once s (at_hand loads []) event proc poke.req reason poke first refl tab.once);
-          trips = subst (λ (l : List ReqId). AreLoadsOnce unpoked l) stays (poke_refused_loads s (at_hand loads []) event proc poke.req reason poke first refl no_load tab.trips);
-          known = poke_refused_known s (at_hand loads []) event proc reason poke first tab.once tab.known;
+          once = subst (λ (l : List ReqId). AreOnce unpoked l) (sym stays) (poke_refused_once s (at_hand (open_among s.requests loads) []) event proc poke.req reason poke first refl tab.once);
+          trips = subst (λ (l : List ReqId). AreLoadsOnce unpoked l) (sym stays) (poke_refused_loads s (at_hand (open_among s.requests loads) []) event proc poke.req reason poke first refl no_load tab.trips);
+          known = poke_refused_known s (at_hand (open_among s.requests loads) []) event proc reason poke first tab.once tab.known;
           desks = unmade_desks s event proc poke.req reason tab.desks;
           ways = left_ways s event (actors.Proc proc) tab.ways (rows.Refused poke.req reason) (refused_left s event (actors.Proc proc) poke.req reason) refl refl;
           entries = refused_entries [] s event tab.entries poke.req (nothing_goes [] s poke.req unparked refl) (actors.Proc proc) reason;

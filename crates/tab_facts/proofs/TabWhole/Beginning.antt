@@ -24,7 +24,7 @@ use Rattle.seen_facts.specs.Load.Loading.{Look, is_ongoing, look_of}
 use Rattle.seen_facts.proofs.LoadWhereabouts.Begun.{started_load, started_other}
 use Rattle.seen_facts.proofs.LoadWhereabouts.Others.{started_load_once}
 use Rattle.seen_facts.proofs.LoadWhereabouts.Rows.{evicted_loads}
-use Rattle.log_model.specs.Equal.{has_req}
+use Rattle.log_model.specs.Equal.{has_req, holds}
 use Rattle.log_model.specs.Once.{loads}
 use Rattle.log_model.specs.Places.{is_load, is_traversal}
 use Rattle.log_model.specs.Seen.{Asked, Seen, request_in, request_of}
@@ -44,7 +44,8 @@ use Rattle.tab_ids.specs.declared.NavId.{NavId}
 use Rattle.tab_ids.specs.declared.ReqId.{ReqId}
 use Rattle.tab_ids.specs.declared.StateId.{StateId}
 use Rattle.tab_ids.specs.declared.Step.{Step}
-use Rattle.tab_facts.specs.TabWhole.Tab.{IsTab, at_hand}
+use Rattle.tab_facts.proofs.TabWhole.OpenAmong.{first_once, first_trips, once_on, started_ends, trips_on, unended_open}
+use Rattle.tab_facts.specs.TabWhole.Tab.{IsTab, at_hand, has_ended, open_among}
 use Rattle.seen_facts.proofs.Transit.Rows.{left_ways}
 use Rattle.log_model.specs.declared.request.Request.TheVariants as requests
 use Rattle.log_model.specs.declared.row_kind.RowKind.TheVariants as rows
@@ -91,8 +92,8 @@ module _ (at : List ReqId) (hand : List Made) (s : Seen) (event : ℕ) (actor : 
         queued = runs_queued;
         loading = begun_other s event actor tab.loading req (Some goal) no_loads;
         fragments = started_fragments s event actor tab.fragments req (Some goal);
-        once = started_once s (at_hand at hand) event actor req (Some goal) tab.once;
-        trips = started_other s event actor req (Some goal) (at_hand at hand) other tab.trips;
+        once = once_on s begun at hand (started_ends s event actor req (Some goal)) (started_once s (at_hand (open_among s.requests at) hand) event actor req (Some goal) tab.once);
+        trips = trips_on s begun at hand (started_ends s event actor req (Some goal)) (started_other s event actor req (Some goal) (at_hand (open_among s.requests at) hand) other tab.trips);
         known = started_known s event actor req (Some goal) tab.known;
         desks = started_desks s event actor tab.desks req (Some goal);
         ways = left_ways s event actor tab.ways (rows.Started req (Some goal)) (started_left s event actor req (Some goal)) refl refl;
@@ -114,10 +115,11 @@ module _ (at : List ReqId) (hand : List Made) (s : Seen) (event : ℕ) (actor : 
 
 -- ---- a load
 
--- the request is a load of the navigable, which is there, no document was sent to a fragment for it, and no other load of that navigable is ongoing
+-- the request is a load of the navigable, which is there, it hasn't ended, no document was sent to a fragment for it, and no other load of that navigable is ongoing
 pub record IsToLoad (s : Seen) (req : ReqId) (q : Asked) (nav : NavId) (mode : Mode) (address : List ℕ) : Type 0 where
   pub there : request_of s req ≡ Some q
   pub what : q.what ≡ requests.Load nav mode address
+  pub open_ : q.ending ≡ None
   pub placed : HasPlace s.places nav
   pub unsent : q.fragment ≡ None
   pub alone : (other : ReqId) (m : Look) → look_of s other ≡ Some m → is_ongoing m ≡ true → loads nav m.what ≡ true → ⊥
@@ -128,6 +130,9 @@ module _ (run : Option ReqId) (req : ReqId) (at : List ReqId) (hand : List Made)
 
   its_load : is_load q.what ≡ true
   its_load = ap is_load is.what
+
+  its_open : holds has_ended (request_in s.requests req) ≡ false
+  its_open = ap (λ (o : Option Asked). holds has_ended o) is.there ∙ unended_open q is.open_
 
   -- so nothing was made of it
   unmade : q.made ≡ None
@@ -149,8 +154,8 @@ module _ (run : Option ReqId) (req : ReqId) (at : List ReqId) (hand : List Made)
         queued = queued_after run s event actor tab.queued (rows.Started req None) tt;
         loading = begun_loading s event actor tab.loading req q nav mode address is.there is.what unmade is.alone;
         fragments = started_fragments s event actor tab.fragments req None;
-        once = started_load_once s (at_hand at hand) event actor req None (ap is_of_load is.there ∙ its_load) tab.once;
-        trips = started_load s event actor req None (at_hand at hand) q is.there its_load tab.trips;
+        once = once_on s load_begun at hand (started_ends s event actor req None) (started_load_once s (at_hand (open_among s.requests at) hand) event actor req None (ap is_of_load is.there ∙ its_load) (first_once s req at hand its_open tab.once));
+        trips = trips_on s load_begun at hand (started_ends s event actor req None) (started_load s event actor req None (at_hand (open_among s.requests at) hand) q is.there its_load (first_trips s req at hand its_open tab.trips));
         known = started_known s event actor req None tab.known;
         desks = started_desks s event actor tab.desks req None;
         ways = left_ways s event actor tab.ways (rows.Started req None) (started_left s event actor req None) refl refl;
@@ -184,8 +189,8 @@ module _ (run : Option ReqId) {at : List ReqId} (s : Seen) (event : ℕ) (actor 
         queued = queued_after run s event actor tab.queued (rows.Evicted state) tt;
         loading = evicted_loading s event actor tab.loading state;
         fragments = evicted_fragments s event actor tab.fragments state;
-        once = evicted_once s (at_hand at []) event actor state tab.once;
-        trips = evicted_loads s (at_hand at []) event actor tab.trips state;
+        once = evicted_once s (at_hand (open_among s.requests at) []) event actor state tab.once;
+        trips = evicted_loads s (at_hand (open_among s.requests at) []) event actor tab.trips state;
         known = record { desks = tab.known.desks; joined = tab.known.joined; parked = tab.known.parked };
         desks = evicted_desks s event actor tab.desks state;
         ways = left_ways s event actor tab.ways (rows.Evicted state) (evicted_left s event actor state) refl refl;

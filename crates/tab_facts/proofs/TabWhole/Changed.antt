@@ -15,7 +15,6 @@ use Rattle.seen_facts.specs.Home.Homes.{AreHomed}
 use Rattle.seen_facts.proofs.Kept.Changes as keeping
 use Rattle.seen_facts.proofs.Load.Changes.{BringsFree, applied_loading}
 use Rattle.seen_facts.proofs.LoadWhereabouts.Ended.{applied_loads}
-use Rattle.seen_facts.specs.LoadWhereabouts.Whereabouts.{AreLoadsOnce}
 use Rattle.log_model.specs.AfterRequests.{without_req}
 use Rattle.log_model.specs.History.{applied, fits}
 use Rattle.log_model.specs.Seen.{Asked, Seen, request_of}
@@ -28,26 +27,21 @@ use Rattle.seen_facts.proofs.Mover.Changes.{applied_movers}
 use Rattle.seen_facts.specs.Place.Standing.{AreStanding}
 use Rattle.seen_facts.proofs.Request.Endings.{applied_once}
 use Rattle.seen_facts.proofs.Request.KnownEnded.{applied_known}
-use Rattle.seen_facts.specs.Request.Whereabouts.{AreOnce, times_at}
+use Rattle.seen_facts.specs.Request.Whereabouts.{times_at}
 use Rattle.seen_facts.proofs.Rest.Kept.{applied_kept}
 use Rattle.seen_facts.specs.Rest.Owning.{BringsOwned}
 use Rattle.seen_laws.proofs.Sums.{over}
 use Rattle.tab_facts.proofs.Shown.Rows.{applied_shown}
-use Rattle.std.proofs.Common.{List, None, Option, Some, subst, sym, true, ℕ, ◌≡◌}
+use Rattle.std.proofs.Common.{List, None, Option, Some, true, ℕ, ◌≡◌}
 use Rattle.tab_ids.specs.declared.ReqId.{ReqId}
-use Rattle.tab_facts.proofs.TabWhole.Where.{IsCarried, carried_off, carried_waits_not, hands_without}
-use Rattle.tab_facts.specs.TabWhole.Tab.{IsTab, at_hand}
+use Rattle.tab_facts.proofs.TabWhole.OpenAmong.{applied_else, once_left, trips_left}
+use Rattle.tab_facts.proofs.TabWhole.Where.{IsCarried, carried_off, carried_waits_not}
+use Rattle.tab_facts.specs.TabWhole.Tab.{IsTab, at_hand, open_among}
 use Rattle.seen_facts.proofs.Transit.Applied.{applied_ways}
 
 module _ (run next_run : Option ReqId) (loads : List ReqId) (hand : List Made) (s : Seen) (event : ℕ) (actor : Actor) (req : ReqId) (change : Change) where
   abbrev pub changed : Seen
   changed = next s event actor (rows.Applied req change)
-
-  abbrev left_hand : List Made
-  left_hand = without_made req hand
-
-  abbrev left_loads : List ReqId
-  left_loads = without_req req loads
 
   -- what is told of the change: its request has no outcome, and is at a place that is no desk; it fits, and its document state is as it should be; and what it leaves of places, requests, entries and of what leads on
   pub record ChangesWell : Type 0 where
@@ -86,8 +80,8 @@ module _ (run next_run : Option ReqId) (loads : List ReqId) (hand : List Made) (
           queued = well.queued;
           loading = applied_loading s event actor tab.loading req change well.free;
           fragments = applied_fragments s event actor tab.fragments req change (carried_waits_not run loads hand s tab req well.carried);
-          once = subst (λ (l : List ReqId). AreOnce changed l) (sym (hands_without req loads hand)) (applied_once s (at_hand loads hand) event req actor change (λ other. off) tab.once);
-          trips = subst (λ (l : List ReqId). AreLoadsOnce changed l) (sym (hands_without req loads hand)) (applied_loads s (at_hand loads hand) event req (λ load. off) tab.trips actor change);
+          once = once_left s changed loads hand req (applied_else s event actor req change) (applied_once s (at_hand (open_among s.requests loads) hand) event req actor change (λ other. off) tab.once);
+          trips = trips_left s changed loads hand req (applied_else s event actor req change) (applied_loads s (at_hand (open_among s.requests loads) hand) event req (λ load. off) tab.trips actor change);
           known = applied_known s event req off tab.known actor change;
           desks = applied_desks s event actor tab.desks req change;
           ways = applied_ways s event actor req change tab.ways;

@@ -53,7 +53,8 @@ use Rattle.tab_ids.specs.declared.ProcId.{ProcId}
 use Rattle.tab_ids.specs.declared.ReqId.{ReqId}
 use Rattle.tab_ids.specs.declared.StateId.{StateId}
 use Rattle.tab_facts.proofs.TabWhole.Working.{held_by_cores}
-use Rattle.tab_facts.specs.TabWhole.Tab.{IsTab, at_hand}
+use Rattle.tab_facts.proofs.TabWhole.OpenAmong.{delivered_ends, once_on, trips_on}
+use Rattle.tab_facts.specs.TabWhole.Tab.{IsTab, at_hand, open_among}
 use Rattle.seen_facts.proofs.Transit.Delivered.{delivered_ways}
 use Rattle.seen_facts.specs.Transit.Orders.{IsOutcomeOf}
 use Rattle.log_model.specs.declared.job.Task.TheVariants as tasks
@@ -84,7 +85,7 @@ module _ (run : Option ReqId) {loads : List ReqId} (s : Seen) (event : ℕ) (pro
         by_report (reports.Made made) at its = rw at tt
         by_report (reports.Died death) at never = absurd never
 
-    pub came_tab : (hand : List Made) → FlowsIf hand came → AreOnce came (at_hand loads hand) → AreLoadsOnce came (at_hand loads hand) → AreKnown came → AreEntries hand came → ArePast hand came → IsTab run loads hand came
+    pub came_tab : (hand : List Made) → FlowsIf hand came → AreOnce came (at_hand (open_among s.requests loads) hand) → AreLoadsOnce came (at_hand (open_among s.requests loads) hand) → AreKnown came → AreEntries hand came → ArePast hand came → IsTab run loads hand came
     came_tab hand flows_ once trips known entries past =
         record {
           sound = tab.sound;
@@ -100,8 +101,8 @@ module _ (run : Option ReqId) {loads : List ReqId} (s : Seen) (event : ℕ) (pro
           queued = queued_after run s event actors.Coord tab.queued (rows.Delivered proc) tt;
           loading = delivered_loading s event actors.Coord tab.loading proc fine;
           fragments = delivered_fragments s event actors.Coord tab.fragments proc;
-          once = once;
-          trips = trips;
+          once = once_on s came loads hand (delivered_ends s event actors.Coord proc) once;
+          trips = trips_on s came loads hand (delivered_ends s event actors.Coord proc) trips;
           known = known;
           desks = delivered_desks s event actors.Coord tab.desks proc fine;
           ways = delivered_ways s event actors.Coord proc tab.homes tab.ways fine;
@@ -166,8 +167,8 @@ module _ (run : Option ReqId) {loads : List ReqId} (s : Seen) (event : ℕ) (pro
     pub done_tab : IsTab run loads [] came
     done_tab =
         came_tab (reports.Done job outcome None) first [] (flows_if came done_flows)
-        (untold_once s (at_hand loads []) event actors.Coord proc (reports.Done job outcome None) first refl tab.once)
-        (untold_loads s (at_hand loads []) event actors.Coord proc (reports.Done job outcome None) first refl tab.trips)
+        (untold_once s (at_hand (open_among s.requests loads) []) event actors.Coord proc (reports.Done job outcome None) first refl tab.once)
+        (untold_loads s (at_hand (open_among s.requests loads) []) event actors.Coord proc (reports.Done job outcome None) first refl tab.trips)
         (untold_known s event actors.Coord proc (reports.Done job outcome None) first refl tab.known)
         (told_entries [] s event actors.Coord tab.entries proc (fine (reports.Done job outcome None) first) (rw first refl))
         (unmade_past [] [] s event proc tab.docs (fine (reports.Done job outcome None) first) (ap (λ (l : List Made). l ++ []) done_held) tab.past)

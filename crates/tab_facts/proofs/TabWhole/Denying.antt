@@ -26,7 +26,7 @@ use Rattle.std.proofs.Common.{Bool, List, None, Option, Some, [], ap, arith, con
 use Rattle.std.proofs.lemmas.Bool.{eqb-true}
 use Rattle.tab_ids.specs.declared.ReqId.{ReqId}
 use Rattle.tab_facts.proofs.TabWhole.Ending.{IsNoProcess, MayEnd, dropped_tab, refused_tab}
-use Rattle.tab_facts.proofs.TabWhole.Where.{IsCarried, at_most_once, none_at}
+use Rattle.tab_facts.proofs.TabWhole.Where.{IsCarried, at_most_once, found_unloaded, none_at}
 use Rattle.tab_facts.specs.TabWhole.Tab.{IsTab}
 use Rattle.log_model.specs.declared.made.What.TheVariants as whats
 use Rattle.log_model.specs.declared.outcome.Cause.TheVariants as drops
@@ -163,8 +163,7 @@ module _ (run : Option ReqId) (loads : List ReqId) (hand : List Made) (s : Seen)
 
   unloaded : has_req loads req ≡ false
   unloaded =
-      let all = at_most_once run loads hand s tab req in
-      times_none req loads (omega (arith, all, some_parked))
+      times_none req loads (found_unloaded run loads hand s tab req (omega (arith, some_parked)))
 
   its : IsParked (core_of (request_in s.requests req)) req
   its = parked_is s.requests s.parked req parked tab.known.parked

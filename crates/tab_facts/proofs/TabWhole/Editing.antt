@@ -2,7 +2,7 @@
 use Rattle.log_model.specs.After.{follows_finished}
 use Rattle.log_model.specs.AfterPlaces.{with_taker}
 use Rattle.log_model.specs.AfterRequests.{without_req}
-use Rattle.log_model.specs.Equal.{has_req}
+use Rattle.log_model.specs.Equal.{has_req, holds}
 use Rattle.log_model.specs.History.{History, has_row}
 use Rattle.log_model.specs.Seen.{Asked, Document, Place, Seen, desk_of, request_in, request_of}
 use Rattle.log_model.specs.Views.{View, made_for}
@@ -39,7 +39,7 @@ use Rattle.seen_facts.proofs.Transit.Rows.{made_ways}
 use Rattle.seen_facts.specs.Coord.Flowing.{Flows}
 use Rattle.seen_facts.specs.Coord.Leading.{held_back}
 use Rattle.seen_facts.specs.Each.Runs.{is_this}
-use Rattle.seen_facts.specs.Request.Whereabouts.{is_of_load}
+use Rattle.seen_facts.specs.Request.Whereabouts.{is_of_load, AreOnce}
 use Rattle.std.proofs.Common.{Bool, List, None, Option, Some, [], ap, append-nil, false, inl, inr, not, refl, subst, sym, true, ◌&&◌, ◌++◌, ◌==◌, ◌∙◌, ◌∷◌, ◌≡◌}
 use Rattle.std.proofs.lemmas.List.{map-id}
 use Rattle.std.specs.Prelude.{if◌then◌else◌, option_and_then, option_map, slice_get}
@@ -52,7 +52,8 @@ use Rattle.tab_facts.proofs.TabWhole.Acting as acting
 use Rattle.tab_facts.proofs.TabWhole.Acting.{IsActing}
 use Rattle.tab_facts.proofs.TabWhole.Changed.{changed_tab}
 use Rattle.tab_facts.proofs.TabWhole.Where.{nothing_goes}
-use Rattle.tab_facts.specs.TabWhole.Tab.{IsTab, at_hand}
+use Rattle.tab_facts.proofs.TabWhole.OpenAmong.{SameEnds, made_ends, once_more, open_same, trips_more, trips_on}
+use Rattle.tab_facts.specs.TabWhole.Tab.{IsTab, at_hand, has_ended, open_among}
 use Rattle.tab_ids.specs.declared.ProcId.{ProcId}
 use Rattle.tab_ids.specs.declared.ReqId.{ReqId}
 use Rattle.log_model.proofs.Refl.{nat_eq_refl}
@@ -114,6 +115,18 @@ module _ (run : Option ReqId) {loads : List ReqId} (s : Seen) (proc : ProcId) (t
       by_found None e = refl
       by_found (Some q) e = e
 
+  -- no request ends, and its own hasn't
+  ends_same : SameEnds s.requests edits.requests
+  ends_same = made_ends s s.events (actors.Proc proc) proc made
+
+  open_then : holds has_ended (request_in edits.requests poke.req) ≡ false
+  open_then =
+      ends_same poke.req ∙ acting.its_open run s proc tab flows poke first
+
+  once_on_edits : AreOnce edits (poke.req ∷ at_hand (open_among s.requests loads) []) → AreOnce edits (poke.req ∷ at_hand (open_among edits.requests loads) [])
+  once_on_edits =
+      subst (λ (l : List ReqId). AreOnce edits (poke.req ∷ at_hand l [])) (sym (open_same s.requests edits.requests loads ends_same))
+
   pub edits_tab : IsTab run (poke.req ∷ loads) [] edits
   edits_tab =
       record {
@@ -130,9 +143,9 @@ module _ (run : Option ReqId) {loads : List ReqId} (s : Seen) (proc : ProcId) (t
         queued = queued_after run s s.events (actors.Proc proc) tab.queued (rows.Made proc made) tt;
         loading = made_loading s s.events (actors.Proc proc) tab.loading proc made (acting.no_ongoing run s proc tab flows poke first d view whats.Edit is);
         fragments = made_other_fragments s s.events (actors.Proc proc) proc made no_load tab.fragments;
-        once = edited_once s (at_hand loads []) s.events (actors.Proc proc) proc made poke first refl refl anew tab.once;
-        trips = at_hand_else edits (at_hand loads []) poke.req no_load_then (made_other s (at_hand loads []) s.events (actors.Proc proc) proc made poke first refl no_load anew tab.trips);
-        known = edited_known s (at_hand loads []) s.events (actors.Proc proc) proc made poke first refl refl anew tab.once tab.known;
+        once = once_more edits poke.req loads [] open_then (once_on_edits (edited_once s (at_hand (open_among s.requests loads) []) s.events (actors.Proc proc) proc made poke first refl refl anew tab.once));
+        trips = trips_more edits poke.req loads [] open_then (at_hand_else edits (at_hand (open_among edits.requests loads) []) poke.req no_load_then (trips_on s edits loads [] ends_same (made_other s (at_hand (open_among s.requests loads) []) s.events (actors.Proc proc) proc made poke first refl no_load anew tab.trips)));
+        known = edited_known s (at_hand (open_among s.requests loads) []) s.events (actors.Proc proc) proc made poke first refl refl anew tab.once tab.known;
         desks = edited_desks s s.events (actors.Proc proc) tab.desks proc made refl anew;
         ways = made_ways s s.events (actors.Proc proc) tab.ways proc made anew;
         entries = edit_entries [] s s.events (actors.Proc proc) tab.entries proc made refl unparked anew;

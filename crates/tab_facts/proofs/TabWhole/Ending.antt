@@ -33,11 +33,13 @@ use Rattle.seen_facts.specs.Request.Whereabouts.{AreOnce, times_at}
 use Rattle.seen_facts.proofs.Rest.Kept.{left_kept}
 use Rattle.seen_laws.proofs.Sums.{over}
 use Rattle.tab_facts.proofs.Shown.Rows.{dropped_shown, refused_shown}
-use Rattle.std.proofs.Common.{List, Option, false, refl, subst, sym, ℕ, ◌≡◌}
+use Rattle.std.proofs.Common.{List, Option, false, refl, ℕ, ◌≡◌}
 use Rattle.tab_ids.specs.declared.ReqId.{ReqId}
-use Rattle.tab_facts.proofs.TabWhole.Where.{IsCarried, carried_off, carried_waits_not, hands_without}
-use Rattle.tab_facts.specs.TabWhole.Tab.{IsTab, at_hand}
+use Rattle.tab_facts.proofs.TabWhole.OpenAmong.{ended_else, once_left, trips_left}
+use Rattle.tab_facts.proofs.TabWhole.Where.{IsCarried, carried_off, carried_waits_not}
+use Rattle.tab_facts.specs.TabWhole.Tab.{IsTab, at_hand, open_among}
 use Rattle.seen_facts.proofs.Transit.Rows.{left_ways}
+use Rattle.log_model.specs.declared.outcome.Ending.TheVariants as endings
 use Rattle.log_model.specs.declared.row_kind.Actor.TheVariants as actors
 use Rattle.log_model.specs.declared.row_kind.RowKind.TheVariants as rows
 
@@ -62,18 +64,6 @@ module _ (run : Option ReqId) (loads : List ReqId) (hand : List Made) (s : Seen)
   waits_not : WaitsNot s.requests req
   waits_not = carried_waits_not run loads hand s tab req end.carried
 
-  abbrev left_hand : List Made
-  left_hand = without_made req hand
-
-  abbrev left_loads : List ReqId
-  left_loads = without_req req loads
-
-  once_left : (t : Seen) → AreOnce t (without_req req (at_hand loads hand)) → AreOnce t (at_hand left_loads left_hand)
-  once_left t = subst (λ (l : List ReqId). AreOnce t l) (sym (hands_without req loads hand))
-
-  trips_left : (t : Seen) → AreLoadsOnce t (without_req req (at_hand loads hand)) → AreLoadsOnce t (at_hand left_loads left_hand)
-  trips_left t = subst (λ (l : List ReqId). AreLoadsOnce t l) (sym (hands_without req loads hand))
-
   pub dropped_tab : (actor : Actor) (cause : Cause) → IsTab run (without_req req loads) (without_made req hand) (next s event actor (rows.Dropped req cause))
   dropped_tab actor cause =
       record {
@@ -90,8 +80,8 @@ module _ (run : Option ReqId) (loads : List ReqId) (hand : List Made) (s : Seen)
         queued = queued_after run s event actor tab.queued (rows.Dropped req cause) end.other;
         loading = dropped_loading s event actor tab.loading req cause;
         fragments = dropped_fragments s event actor tab.fragments req cause waits_not;
-        once = once_left (next s event actor (rows.Dropped req cause)) (dropped_once s (at_hand loads hand) event req actor cause (λ other. off) tab.once);
-        trips = trips_left (next s event actor (rows.Dropped req cause)) (dropped_loads s (at_hand loads hand) event req (λ load. off) tab.trips actor cause);
+        once = once_left s (next s event actor (rows.Dropped req cause)) loads hand req (ended_else s.requests req (endings.Dropped cause)) (dropped_once s (at_hand (open_among s.requests loads) hand) event req actor cause (λ other. off) tab.once);
+        trips = trips_left s (next s event actor (rows.Dropped req cause)) loads hand req (ended_else s.requests req (endings.Dropped cause)) (dropped_loads s (at_hand (open_among s.requests loads) hand) event req (λ load. off) tab.trips actor cause);
         known = dropped_known s event req off tab.known actor cause;
         desks = dropped_desks s event actor tab.desks req cause;
         ways = left_ways s event actor tab.ways (rows.Dropped req cause) (dropped_left s event actor req cause) refl refl;
@@ -102,23 +92,23 @@ module _ (run : Option ReqId) (loads : List ReqId) (hand : List Made) (s : Seen)
 
   -- what is of one actor or the other
   record Refuses (actor : Actor) (reason : Denial) : Type 0 where
-    once : AreOnce (next s event actor (rows.Refused req reason)) (without_req req (at_hand loads hand))
-    trips : AreLoadsOnce (next s event actor (rows.Refused req reason)) (without_req req (at_hand loads hand))
+    once : AreOnce (next s event actor (rows.Refused req reason)) (without_req req (at_hand (open_among s.requests loads) hand))
+    trips : AreLoadsOnce (next s event actor (rows.Refused req reason)) (without_req req (at_hand (open_among s.requests loads) hand))
     known : AreKnown (next s event actor (rows.Refused req reason))
     desks : AreDesksIn (next s event actor (rows.Refused req reason))
 
   refuses : (actor : Actor) (reason : Denial) → IsNoProcess actor → Refuses actor reason
   refuses actors.Coord reason is =
       record {
-        once = refused_once s (at_hand loads hand) event req reason (λ other. off) tab.once;
-        trips = refused_loads s (at_hand loads hand) event req (λ load. off) tab.trips reason;
+        once = refused_once s (at_hand (open_among s.requests loads) hand) event req reason (λ other. off) tab.once;
+        trips = refused_loads s (at_hand (open_among s.requests loads) hand) event req (λ load. off) tab.trips reason;
         known = refused_known s event req off tab.known reason;
         desks = denied_desks s event actors.Coord req reason (λ proc e. absurd cc) tab.desks;
       }
   refuses actors.Ui reason is =
       record {
-        once = denied_once s (at_hand loads hand) event req reason (λ other. off) tab.once;
-        trips = denied_loads s (at_hand loads hand) event req (λ load. off) tab.trips reason;
+        once = denied_once s (at_hand (open_among s.requests loads) hand) event req reason (λ other. off) tab.once;
+        trips = denied_loads s (at_hand (open_among s.requests loads) hand) event req (λ load. off) tab.trips reason;
         known = denied_known s event req off tab.known reason;
         desks = denied_desks s event actors.Ui req reason (λ proc e. absurd cc) tab.desks;
       }
@@ -141,8 +131,8 @@ module _ (run : Option ReqId) (loads : List ReqId) (hand : List Made) (s : Seen)
         queued = queued_after run s event actor tab.queued (rows.Refused req reason) end.other;
         loading = refused_loading s event actor tab.loading req reason;
         fragments = refused_fragments s event actor tab.fragments req reason waits_not;
-        once = once_left (next s event actor (rows.Refused req reason)) (refuses actor reason is).once;
-        trips = trips_left (next s event actor (rows.Refused req reason)) (refuses actor reason is).trips;
+        once = once_left s (next s event actor (rows.Refused req reason)) loads hand req (ended_else s.requests req (endings.Refused reason)) (refuses actor reason is).once;
+        trips = trips_left s (next s event actor (rows.Refused req reason)) loads hand req (ended_else s.requests req (endings.Refused reason)) (refuses actor reason is).trips;
         known = (refuses actor reason is).known;
         desks = (refuses actor reason is).desks;
         ways = left_ways s event actor tab.ways (rows.Refused req reason) (refused_left s event actor req reason) refl refl;

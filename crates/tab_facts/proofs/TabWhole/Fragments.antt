@@ -56,7 +56,8 @@ use Rattle.tab_ids.specs.declared.ProcId.{ProcId}
 use Rattle.tab_ids.specs.declared.ReqId.{ReqId}
 use Rattle.tab_facts.proofs.TabWhole.Joining.{joined_ways}
 use Rattle.tab_facts.proofs.TabWhole.Working.{finish_flows, in_hand_lives, unmade, held_by_cores}
-use Rattle.tab_facts.specs.TabWhole.Tab.{IsTab, at_hand}
+use Rattle.tab_facts.proofs.TabWhole.OpenAmong.{SameEnds, ends_then, finished_ends, made_ends, once_on, trips_on}
+use Rattle.tab_facts.specs.TabWhole.Tab.{IsTab, at_hand, open_among}
 use Rattle.seen_facts.proofs.Transit.Rows.{finished_ways}
 use Rattle.seen_facts.specs.Transit.Orders.{IsOutcomeOf}
 use Rattle.log_model.specs.declared.job.Task.TheVariants as tasks
@@ -245,6 +246,11 @@ module _ (run : Option ReqId) {loads : List ReqId} (s : Seen) (event : ℕ) (pro
   finished_past_ =
       finished_past s event proc tab.docs order outcomes.Fragmented in_ (ap (λ (l : List Made). l ++ []) (held_by_cores s.requests finished.requests s.parked (finished_cores s (desk_of s proc).in_hand outcomes.Fragmented s.requests))) tab.past
 
+  -- no request ends
+  its_ends : SameEnds s.requests fragment_made.requests
+  its_ends =
+      ends_then s.requests finished.requests fragment_made.requests (finished_ends s event (actors.Proc proc) proc order.job.nr outcomes.Fragmented) (made_ends finished event (actors.Proc proc) proc made)
+
   pub fragment_made_tab : IsTab run loads [] fragment_made
   fragment_made_tab =
       record {
@@ -261,8 +267,8 @@ module _ (run : Option ReqId) {loads : List ReqId} (s : Seen) (event : ℕ) (pro
         queued = queued_after run finished event (actors.Proc proc) (queued_after run s event (actors.Proc proc) tab.queued (rows.Finished proc order.job.nr outcomes.Fragmented) tt) (rows.Made proc made) tt;
         loading = made_loading finished event (actors.Proc proc) (finished_loading s event (actors.Proc proc) tab.loading proc order.job.nr outcomes.Fragmented) proc made no_ongoing;
         fragments = finished_made_fragments s event (actors.Proc proc) proc order.job.nr outcomes.Fragmented order req mode address is.in_hand is.task tab.fragments (actors.Proc proc) made refl;
-        once = made_fragment_once finished (at_hand loads []) event (actors.Proc proc) proc made just.front order.job outcomes.Fragmented just.last just.follows load_then (finished_once s (at_hand loads []) event (actors.Proc proc) proc order.job.nr outcomes.Fragmented tab.once);
-        trips = finished_fragment s event (actors.Proc proc) proc order.job.nr outcomes.Fragmented order is.in_hand (at_hand loads []) (actors.Proc proc) made waiting.q waiting.found what_load waiting.waits tab.trips;
+        once = once_on s fragment_made loads [] its_ends (made_fragment_once finished (at_hand (open_among s.requests loads) []) event (actors.Proc proc) proc made just.front order.job outcomes.Fragmented just.last just.follows load_then (finished_once s (at_hand (open_among s.requests loads) []) event (actors.Proc proc) proc order.job.nr outcomes.Fragmented tab.once));
+        trips = trips_on s fragment_made loads [] its_ends (finished_fragment s event (actors.Proc proc) proc order.job.nr outcomes.Fragmented order is.in_hand (at_hand (open_among s.requests loads) []) (actors.Proc proc) made waiting.q waiting.found what_load waiting.waits tab.trips);
         known = event_known s event proc order req mode address is.task in_ d view is.found is.has number is.runs waiting.q its_load.nav its_load.to its_load.at its_load.load tab.known;
         desks = fragment_desks finished event (actors.Proc proc) (finished_desks s event (actors.Proc proc) tab.desks proc order outcomes.Fragmented is.in_hand its) proc made order.job outcomes.Fragmented just.front made_in just.follows just.last (subst owning.IsFragmentTask (sym is.task) tt) (ap (λ (n : DocId). n.0) number);
         ways = joined_ways finished event (actors.Proc proc) proc made just.follows (finished_ways s event (actors.Proc proc) tab.ways proc order outcomes.Fragmented is.in_hand its);

@@ -33,7 +33,7 @@ use Rattle.tab_ids.specs.declared.ReqId.{ReqId}
 use Rattle.tab_facts.proofs.TabWhole.Delivering.{came, came_tab, fine, its_report}
 use Rattle.tab_facts.proofs.TabWhole.Denying.{IsMadeAtHand, alone_at_hand, still_other}
 use Rattle.tab_facts.proofs.TabWhole.Passing.{flows_if_with, flows_without_it}
-use Rattle.tab_facts.specs.TabWhole.Tab.{IsTab, at_hand}
+use Rattle.tab_facts.specs.TabWhole.Tab.{IsTab, at_hand, open_among}
 use Rattle.seen_facts.specs.Transit.Orders.{IsOutcomeOf}
 use Rattle.log_model.specs.declared.job.Task.TheVariants as tasks
 use Rattle.log_model.specs.declared.made.Report.TheVariants as reports
@@ -139,15 +139,18 @@ module _ (run : Option ReqId) {loads : List ReqId} (s : Seen) (event : ℕ) (pro
       at_hand_flows s event proc made told_first its_home (unheld_then s event proc made told_first free) flows
 
   -- behind the loads that are
-  behind : SameTimes told (made.req ∷ at_hand loads []) told (at_hand loads (made ∷ []))
-  behind r = omega (arith, times_append r loads [], times_append r loads (made.req ∷ []))
+  abbrev open_loads : List ReqId
+  open_loads = open_among s.requests loads
+
+  behind : SameTimes told (made.req ∷ at_hand open_loads []) told (at_hand open_loads (made ∷ []))
+  behind r = omega (arith, times_append r open_loads [], times_append r open_loads (made.req ∷ []))
 
   pub hand_tab : IsNoGo made.what → is_held_back s made ≡ false → IsTab run loads (made ∷ []) told
   hand_tab no_go free =
       came_tab run s event proc tab flows report first (made ∷ [])
       (flows_if_with (made ∷ []) told (hand_flows free))
-      (once_again told told (made.req ∷ at_hand loads []) (at_hand loads (made ∷ [])) (λ r. refl) behind (at_hand_once s (at_hand loads []) event actors.Coord proc report made first tells no_go free tab.once))
-      (loads_again told told (made.req ∷ at_hand loads []) (at_hand loads (made ∷ [])) (λ r. refl) behind (at_hand_loads s (at_hand loads []) event actors.Coord proc report made first tells tab.trips no_go free))
+      (once_again told told (made.req ∷ at_hand open_loads []) (at_hand open_loads (made ∷ [])) (λ r. refl) behind (at_hand_once s (at_hand open_loads []) event actors.Coord proc report made first tells no_go free tab.once))
+      (loads_again told told (made.req ∷ at_hand open_loads []) (at_hand open_loads (made ∷ [])) (λ r. refl) behind (at_hand_loads s (at_hand open_loads []) event actors.Coord proc report made first tells tab.trips no_go free))
       (at_hand_known s event actors.Coord proc report made first tells tab.known no_go free)
       (at_hand_entries [] s event actors.Coord tab.entries proc (fine run s event proc tab flows report first) made at_first free)
       (made_past [] (made ∷ []) s event proc tab.docs (fine run s event proc tab flows report first) made (first_told (desk_of s proc) made told_first) its_home (ap (λ (l : List Made). l ++ made ∷ []) (unheld_then s event proc made told_first free ∙ sym (append-nil (held_back s.requests s.parked)))) tab.past)
@@ -177,8 +180,8 @@ module _ (run : Option ReqId) {loads : List ReqId} (s : Seen) (event : ℕ) (pro
   held_tab no_go held =
       came_tab run s event proc tab flows report first []
       (flows_if told (held_flows held))
-      (held_once s (at_hand loads []) event actors.Coord proc report made first tells no_go held tab.once)
-      (held_loads s (at_hand loads []) event actors.Coord proc report made first tells tab.trips no_go held)
+      (held_once s (at_hand open_loads []) event actors.Coord proc report made first tells no_go held tab.once)
+      (held_loads s (at_hand open_loads []) event actors.Coord proc report made first tells tab.trips no_go held)
       (held_known s event actors.Coord proc report made first tells tab.known no_go held)
       (held_entries s event actors.Coord tab.entries proc (fine run s event proc tab flows report first) made at_first held its_made)
       (made_past [] [] s event proc tab.docs (fine run s event proc tab flows report first) made (first_told (desk_of s proc) made told_first) its_home (ap (λ (l : List Made). l ++ []) (held_then s event proc made told_first its_asked.q its_asked.there its_asked.makes held) ∙ append-nil (held_back s.requests s.parked ++ made ∷ []) ∙ ap (λ (l : List Made). l ++ made ∷ []) (sym (append-nil (held_back s.requests s.parked)))) tab.past)
@@ -195,8 +198,8 @@ module _ (run : Option ReqId) {loads : List ReqId} (s : Seen) (event : ℕ) (pro
     joined_tab =
         came_tab run s event proc tab flows report first []
         (flows_if told joined_flows)
-        (go_delivered_once s (at_hand loads []) event actors.Coord proc report made first tells delta what tab.once)
-        (go_delivered_loads s (at_hand loads []) event actors.Coord proc report made first tells tab.trips delta what)
+        (go_delivered_once s (at_hand open_loads []) event actors.Coord proc report made first tells delta what tab.once)
+        (go_delivered_loads s (at_hand open_loads []) event actors.Coord proc report made first tells tab.trips delta what)
         (go_delivered_known s event actors.Coord proc report made first tells tab.known delta what)
         (passed_entries [] s event actors.Coord tab.entries proc (fine run s event proc tab flows report first) made at_first (go_free s made delta what) (go_none made delta what))
         (unmade_past [] [] s event proc tab.docs (fine run s event proc tab flows report first) (ap (λ (l : List Made). l ++ []) (unheld_then s event proc made told_first (go_free s made delta what))) tab.past)

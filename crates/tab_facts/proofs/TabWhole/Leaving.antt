@@ -47,7 +47,8 @@ use Rattle.tab_ids.specs.declared.NavId.{NavId}
 use Rattle.tab_ids.specs.declared.ReqId.{ReqId}
 use Rattle.tab_facts.proofs.TabWhole.FreezeFlows.{freeze_if}
 use Rattle.tab_facts.proofs.TabWhole.Sending.{IsToMade, ordered_home, sent_home, some_same}
-use Rattle.tab_facts.specs.TabWhole.Tab.{IsTab, at_hand}
+use Rattle.tab_facts.proofs.TabWhole.OpenAmong.{once_on, sent_ends, trips_on}
+use Rattle.tab_facts.specs.TabWhole.Tab.{IsTab, at_hand, open_among}
 use Rattle.seen_facts.proofs.Transit.Rows.{discarded_ways, frozen_ways}
 use Rattle.seen_facts.proofs.Walk.Placed.{each_found}
 use Rattle.log_model.specs.declared.job.Task.TheVariants as tasks
@@ -108,8 +109,8 @@ module _ (run : Option ReqId) (loads : List ReqId) (hand : List Made) (s : Seen)
           queued = queued_after run s event actor tab.queued (rows.Sent job) tt;
           loading = told_loading s event actor tab.loading job (subst (λ (t : Task). load_docs.MakesNone t) (sym task) tt) (subst (λ (t : Task). load_docs.ShowsNone t) (sym task) tt);
           fragments = sent_other_fragments s event actor tab.fragments job (subst (λ (t : Task). IsNoFragment t) (sym task) tt);
-          once = sent_once s (at_hand loads hand) event actor job tab.once;
-          trips = sent_loads s (at_hand loads hand) event actor tab.trips job (subst (λ (t : Task). IsNoFragment t) (sym task) tt);
+          once = once_on s (next s event actor (rows.Sent job)) loads hand (sent_ends s event actor job) (sent_once s (at_hand (open_among s.requests loads) hand) event actor job tab.once);
+          trips = trips_on s (next s event actor (rows.Sent job)) loads hand (sent_ends s event actor job) (sent_loads s (at_hand (open_among s.requests loads) hand) event actor tab.trips job (subst (λ (t : Task). IsNoFragment t) (sym task) tt));
           known = sent_known s event actor job tab.known;
           desks = told_desks s event actor tab.desks job (subst (λ (t : Task). desk_orders.IsTold t) (sym task) tt) (ordered_home run loads hand s tab job d to);
           ways = frozen_ways s event actor tab.ways job task;
@@ -152,8 +153,8 @@ module _ (run : Option ReqId) (loads : List ReqId) (hand : List Made) (s : Seen)
           queued = queued_after run s event actor tab.queued (rows.Sent job) tt;
           loading = told_loading s event actor tab.loading job (subst (λ (t : Task). load_docs.MakesNone t) (sym task) tt) (subst (λ (t : Task). load_docs.ShowsNone t) (sym task) tt);
           fragments = sent_other_fragments s event actor tab.fragments job (subst (λ (t : Task). IsNoFragment t) (sym task) tt);
-          once = sent_once s (at_hand loads hand) event actor job tab.once;
-          trips = sent_loads s (at_hand loads hand) event actor tab.trips job (subst (λ (t : Task). IsNoFragment t) (sym task) tt);
+          once = once_on s (next s event actor (rows.Sent job)) loads hand (sent_ends s event actor job) (sent_once s (at_hand (open_among s.requests loads) hand) event actor job tab.once);
+          trips = trips_on s (next s event actor (rows.Sent job)) loads hand (sent_ends s event actor job) (sent_loads s (at_hand (open_among s.requests loads) hand) event actor tab.trips job (subst (λ (t : Task). IsNoFragment t) (sym task) tt));
           known = sent_known s event actor job tab.known;
           desks = told_desks s event actor tab.desks job (subst (λ (t : Task). desk_orders.IsTold t) (sym task) tt) (ordered_home run loads hand s tab job d to);
           ways = discarded_ways s event actor tab.ways job task;

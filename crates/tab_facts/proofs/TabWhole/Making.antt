@@ -62,7 +62,8 @@ use Rattle.tab_ids.specs.declared.ProcId.{ProcId}
 use Rattle.tab_ids.specs.declared.ReqId.{ReqId}
 use Rattle.tab_ids.specs.declared.StateId.{StateId}
 use Rattle.tab_facts.proofs.TabWhole.Sending.{lives_first, some_same}
-use Rattle.tab_facts.specs.TabWhole.Tab.{IsTab, at_hand}
+use Rattle.tab_facts.proofs.TabWhole.OpenAmong.{once_on, sent_ends, trips_on}
+use Rattle.tab_facts.specs.TabWhole.Tab.{IsTab, at_hand, open_among}
 use Rattle.seen_facts.proofs.Transit.Rows.{making_ways}
 use Rattle.log_model.specs.declared.job.Task.TheVariants as tasks
 use Rattle.log_model.specs.declared.request.Request.{Request}
@@ -241,8 +242,8 @@ module _ (run : Option ReqId) (loads_ : List ReqId) (hand : List Made) (s : Seen
           queued = queued_after run s event actor tab.queued (rows.Sent job) tt;
           loading = loading;
           fragments = sent_other_fragments s event actor tab.fragments job (subst (λ (t : Task). IsNoFragment t) (sym task) tt);
-          once = sent_once s (at_hand loads_ hand) event actor job tab.once;
-          trips = sent_loads s (at_hand loads_ hand) event actor tab.trips job (subst (λ (t : Task). IsNoFragment t) (sym task) tt);
+          once = once_on s (next s event actor (rows.Sent job)) loads_ hand (sent_ends s event actor job) (sent_once s (at_hand (open_among s.requests loads_) hand) event actor job tab.once);
+          trips = trips_on s (next s event actor (rows.Sent job)) loads_ hand (sent_ends s event actor job) (sent_loads s (at_hand (open_among s.requests loads_) hand) event actor tab.trips job (subst (λ (t : Task). IsNoFragment t) (sym task) tt));
           known = sent_known s event actor job tab.known;
           desks = making_desks s event actor tab.desks job nav state address initial task absent of.placed.place of.placed.found make.first;
           ways = making_ways s event actor tab.ways job nav state address initial task gone unused;

@@ -1,11 +1,11 @@
--- All that holds of a tab between two rows holds after a request is refused or dropped of which nothing is held back or at hand: one that was accepted in the event, one in the queue, and an ongoing load.
+-- All that holds of a tab between two rows holds after a request is refused or dropped of which nothing is held back, and nothing made is at hand: one that was accepted in the event, or is in its unload check, whether or not the list of those at hand still has it then; one in the queue; and an ongoing load.
 use Rattle.seen_facts.proofs.Coord.Unread.{next}
-use Rattle.seen_facts.proofs.Coord.Held.{without_same}
 use Rattle.seen_facts.specs.Each.Runs.{is_this}
 use Rattle.seen_facts.proofs.Entry.Skips.{without_made}
-use Rattle.tab_facts.proofs.FrameWhole.Ending.{reqs_of}
+use Rattle.tab_facts.proofs.FrameWhole.Ending.{reqs_of, some_times}
 use Rattle.tab_facts.proofs.FrameWhole.Refusing.{none_without, turn_joined}
 use Rattle.seen_facts.specs.LoadWhereabouts.Whereabouts.{times_on_way, ways_of}
+use Rattle.log_model.specs.After.{ended}
 use Rattle.log_model.specs.AfterRequests.{without_req}
 use Rattle.log_model.specs.Equal.{has_req, holds}
 use Rattle.log_model.specs.Places.{is_load, is_ongoing_load, is_traversal, is_under_way}
@@ -14,16 +14,18 @@ use Rattle.log_model.specs.Seen.{Asked, Seen, request_in, request_of}
 use Rattle.log_model.specs.declared.made.Made.{Made}
 use Rattle.log_model.specs.declared.outcome.Cause.{Cause}
 use Rattle.log_model.specs.declared.outcome.Denial.{Denial}
+use Rattle.log_model.specs.declared.outcome.Ending.{Ending}
+use Rattle.log_model.specs.declared.outcome.Ending.TheVariants as endings
 use Rattle.log_model.specs.declared.request.Request.{Request}
 use Rattle.log_model.specs.declared.row_kind.Actor.{Actor}
-use Rattle.seen_facts.proofs.Request.Times.{itself, times_none}
-use Rattle.seen_facts.specs.Request.Whereabouts.{is_of_load, times}
-use Rattle.std.proofs.Common.{Bool, List, None, Option, Some, ap, arith, cond, false, inl, inr, refl, subst, sym, true, ℕ, ◌&&◌, ◌<◌, ◌==◌, ◌∙◌, ◌∷◌, ◌≡◌}
-use Rattle.std.specs.Prelude.{not}
+use Rattle.seen_facts.proofs.Request.Times.{itself, times_append, times_none}
+use Rattle.seen_facts.specs.Request.Whereabouts.{is_of_load, times, times_due}
+use Rattle.std.proofs.Common.{Bool, List, None, Option, Some, [], ap, arith, false, inl, inr, refl, subst, sym, true, ℕ, ◌&&◌, ◌+◌, ◌++◌, ◌<◌, ◌==◌, ◌||◌, ◌∙◌, ◌∷◌, ◌≡◌}
 use Rattle.tab_ids.specs.declared.ReqId.{ReqId}
 use Rattle.tab_facts.proofs.TabWhole.Ending.{IsNoProcess, MayEnd, dropped_tab, refused_tab}
-use Rattle.tab_facts.proofs.TabWhole.Where.{IsCarried, IsUnheld, at_most_once, joined_unheld, nothing_goes, unheld_end, unheld_hand, unheld_loads, way_unheld}
-use Rattle.tab_facts.specs.TabWhole.Tab.{IsTab}
+use Rattle.tab_facts.proofs.TabWhole.OpenAmong.{ended_first, ended_itself, tab_alike, tab_else, times_open}
+use Rattle.tab_facts.proofs.TabWhole.Where.{IsCarried, IsUnheld, all_once, at_most_once, ended_nowhere, joined_unheld, nothing_goes, open_held, unheld_end, unheld_hand, unheld_loads, way_unheld}
+use Rattle.tab_facts.specs.TabWhole.Tab.{IsTab, at_hand, has_ended, open_among}
 use Rattle.log_model.specs.declared.request.Request.TheVariants as requests
 use Rattle.log_model.specs.declared.row_kind.RowKind.TheVariants as rows
 
@@ -48,42 +50,91 @@ module _ (run : Option ReqId) (loads : List ReqId) (hand : List Made) (s : Seen)
       by_found (Some q) e is =
           sym (tab.asked.only req q e) ∙ neither (is_under_way q) (is_traversal q.what) (no_traversal q.what is)
 
--- ---- a request at hand, that was accepted in the event
+-- ---- a request of the list of those at hand, which stays in it
 
-module _ (run : Option ReqId) (req : ReqId) (loads : List ReqId) (hand : List Made) (s : Seen) (event : ℕ) (tab : IsTab run (req ∷ loads) hand s) (other : is_this run req ≡ false) where
-  once_here : (times req s.parked ≡ 0) × ((times req loads ≡ 0) × (times req (reqs_of hand) ≡ 0))
-  once_here =
-      let own : (let n : ℕ = cond (req.0 == req.0) 1 0 in n) ≡ 1 = rw (itself req) refl in
-      let all = at_most_once run (req ∷ loads) hand s tab req in
-      (omega (arith, all, own), (omega (arith, all, own), omega (arith, all, own)))
+-- one of these is one of more
+listed_on : (req : ReqId) (xs ys : List ReqId) → has_req xs req ≡ true → has_req (xs ++ ys) req ≡ true
+listed_on req [] ys never = absurd cc
+listed_on req (x ∷ xs) ys has = by_test (x.0 == req.0) has (listed_on req xs ys)
+  where
+    by_test : (b : Bool) → (b || has_req xs req) ≡ true → (has_req xs req ≡ true → has_req (xs ++ ys) req ≡ true) → (b || has_req (xs ++ ys) req) ≡ true
+    by_test true is more = refl
+    by_test false is more = more is
 
-  first_left : without_req req (req ∷ loads) ≡ loads
-  first_left =
-      ap (λ (b : Bool). let l : List ReqId = cond (not b) (req ∷ without_req req loads) (without_req req loads) in l) (itself req)
-      ∙ without_same loads req (times_none req loads once_here.1.0)
+module _ (run : Option ReqId) (loads : List ReqId) (hand : List Made) (s : Seen) (event : ℕ) (tab : IsTab run loads hand s) (req : ReqId) (other : is_this run req ≡ false) (listed : has_req loads req ≡ true) where
+  held : has_req (at_hand loads hand) req ≡ true
+  held = listed_on req loads (reqs_of hand) listed
+
+  -- it is at no other place
+  once_here : (times req s.parked ≡ 0) × (times req (reqs_of hand) ≡ 0)
+  once_here = by_end (holds has_ended (request_in s.requests req)) refl
+    where
+      by_end : (b : Bool) → holds has_ended (request_in s.requests req) ≡ b → (times req s.parked ≡ 0) × (times req (reqs_of hand) ≡ 0)
+      by_end true e =
+          let none = ended_nowhere run loads hand s tab req e in
+          let parts : times req (at_hand (open_among s.requests loads) hand) ≡ times req (open_among s.requests loads) + times req (reqs_of hand) = times_append req (open_among s.requests loads) (reqs_of hand) in
+          (omega (arith, none), omega (arith, none, parts))
+      by_end false e =
+          let some : 0 < times req loads = some_times req loads listed in
+          let same : times req (open_among s.requests loads) ≡ times req loads = times_open s.requests req loads e in
+          let all = at_most_once run loads hand s tab req in
+          (omega (arith, all, same, some), omega (arith, all, same, some))
+
+  -- it was accepted, so it has ended then
+  over : (ending : Ending) → holds has_ended (request_in (ended s.requests req ending) req) ≡ true
+  over ending = by_found (request_in s.requests req) refl
+    where
+      by_found : (o : Option Asked) → request_in s.requests req ≡ o → holds has_ended (request_in (ended s.requests req ending) req) ≡ true
+      by_found None e =
+          let some = open_held run loads hand s tab req (ap (λ (o : Option Asked). holds has_ended o) e) held in
+          let due : times_due (request_in s.requests req) ≡ 0 = ap times_due e in
+          let all = all_once run loads hand s tab req in
+          absurd (omega (arith, some, due, all))
+      by_found (Some q) e = ended_itself s.requests req q ending e
 
   hand_left : without_made req hand ≡ hand
-  hand_left = none_without req hand (times_none req (reqs_of hand) once_here.1.1)
+  hand_left = none_without req hand (times_none req (reqs_of hand) once_here.1)
 
-  its_end : MayEnd run (req ∷ loads) hand s req
+  its_end : MayEnd run loads hand s req
   its_end =
       record {
         other = other;
-        carried = inr (inr (inl (rw (itself req) refl)));
-        passed = nothing_goes hand s req (times_none req s.parked once_here.0) (times_none req (reqs_of hand) once_here.1.1);
+        carried = inr (inr (inl held));
+        passed = nothing_goes hand s req (times_none req s.parked once_here.0) (times_none req (reqs_of hand) once_here.1);
       }
 
-  to_left : (t : Seen) → IsTab run (without_req req (req ∷ loads)) (without_made req hand) t → IsTab run loads hand t
-  to_left t is =
-      subst (λ (l : List ReqId). IsTab run l hand t) first_left (subst (λ (m : List Made). IsTab run (without_req req (req ∷ loads)) m t) hand_left is)
+  stays : (t : Seen) → holds has_ended (request_in t.requests req) ≡ true → IsTab run (without_req req loads) (without_made req hand) t → IsTab run loads hand t
+  stays t is now =
+      tab_else run loads hand t req is (subst (λ (m : List Made). IsTab run (without_req req loads) m t) hand_left now)
+
+  pub listed_refused_tab : (actor : Actor) (reason : Denial) → IsNoProcess actor → IsTab run loads hand (next s event actor (rows.Refused req reason))
+  listed_refused_tab actor reason by =
+      stays (next s event actor (rows.Refused req reason)) (over (endings.Refused reason)) (refused_tab run loads hand s event tab req its_end actor reason by)
+
+  pub listed_dropped_tab : (actor : Actor) (cause : Cause) → IsTab run loads hand (next s event actor (rows.Dropped req cause))
+  listed_dropped_tab actor cause =
+      stays (next s event actor (rows.Dropped req cause)) (over (endings.Dropped cause)) (dropped_tab run loads hand s event tab req its_end actor cause)
+
+-- so it is of a load
+pub listed_load_dropped_tab : (run : Option ReqId) (loads : List ReqId) (hand : List Made) (s : Seen) (event : ℕ) (tab : IsTab run loads hand s) (req : ReqId) → is_of_load (request_in s.requests req) ≡ true → has_req loads req ≡ true → (actor : Actor) (cause : Cause) → IsTab run loads hand (next s event actor (rows.Dropped req cause))
+listed_load_dropped_tab run loads hand s event tab req load listed =
+    listed_dropped_tab run loads hand s event tab req (load_other run loads hand s tab req load) listed
+
+-- ---- a request at hand, that was accepted in the event: it is taken out of the list
+
+module _ (run : Option ReqId) (req : ReqId) (loads : List ReqId) (hand : List Made) (s : Seen) (event : ℕ) (tab : IsTab run (req ∷ loads) hand s) (other : is_this run req ≡ false) where
+  first : has_req (req ∷ loads) req ≡ true
+  first = rw (itself req) refl
 
   pub first_refused_tab : (actor : Actor) (reason : Denial) → IsNoProcess actor → IsTab run loads hand (next s event actor (rows.Refused req reason))
   first_refused_tab actor reason by =
-      to_left (next s event actor (rows.Refused req reason)) (refused_tab run (req ∷ loads) hand s event tab req its_end actor reason by)
+      tab_alike run (req ∷ loads) loads hand (next s event actor (rows.Refused req reason)) (ended_first (ended s.requests req (endings.Refused reason)) req loads (over run (req ∷ loads) hand s event tab req other first (endings.Refused reason)))
+      (listed_refused_tab run (req ∷ loads) hand s event tab req other first actor reason by)
 
   pub first_dropped_tab : (actor : Actor) (cause : Cause) → IsTab run loads hand (next s event actor (rows.Dropped req cause))
   first_dropped_tab actor cause =
-      to_left (next s event actor (rows.Dropped req cause)) (dropped_tab run (req ∷ loads) hand s event tab req its_end actor cause)
+      tab_alike run (req ∷ loads) loads hand (next s event actor (rows.Dropped req cause)) (ended_first (ended s.requests req (endings.Dropped cause)) req loads (over run (req ∷ loads) hand s event tab req other first (endings.Dropped cause)))
+      (listed_dropped_tab run (req ∷ loads) hand s event tab req other first actor cause)
 
 -- so it is of a load
 module _ (run : Option ReqId) (req : ReqId) (loads : List ReqId) (hand : List Made) (s : Seen) (event : ℕ) (tab : IsTab run (req ∷ loads) hand s) (load : is_of_load (request_in s.requests req) ≡ true) where

@@ -49,7 +49,8 @@ use Rattle.tab_ids.specs.declared.StateId.{StateId}
 use Rattle.tab_facts.proofs.TabWhole.Above.{moves_own}
 use Rattle.tab_facts.proofs.TabWhole.Sending.{IsToMade, sent_home}
 use Rattle.tab_facts.proofs.TabWhole.ShowFlows.{none_coming, show_if}
-use Rattle.tab_facts.specs.TabWhole.Tab.{IsTab, at_hand}
+use Rattle.tab_facts.proofs.TabWhole.OpenAmong.{once_on, sent_ends, trips_on}
+use Rattle.tab_facts.specs.TabWhole.Tab.{IsTab, at_hand, open_among}
 use Rattle.seen_facts.proofs.Transit.Rows.{shown_ways}
 use Rattle.log_model.specs.declared.job.Task.TheVariants as tasks
 use Rattle.log_model.specs.declared.row_kind.RowKind.TheVariants as rows
@@ -189,8 +190,8 @@ module _ (run : Option ReqId) (loads : List ReqId) (hand : List Made) (s : Seen)
         queued = queued_after run s event actor tab.queued (rows.Sent job) tt;
         loading = shown_loading s event actor tab.loading job d target.entry epoch long at target.memo target.address task show.found free;
         fragments = sent_other_fragments s event actor tab.fragments job (subst (λ (t : Task). IsNoFragment t) (sym task) tt);
-        once = sent_once s (at_hand loads hand) event actor job tab.once;
-        trips = sent_loads s (at_hand loads hand) event actor tab.trips job (subst (λ (t : Task). IsNoFragment t) (sym task) tt);
+        once = once_on s (next s event actor (rows.Sent job)) loads hand (sent_ends s event actor job) (sent_once s (at_hand (open_among s.requests loads) hand) event actor job tab.once);
+        trips = trips_on s (next s event actor (rows.Sent job)) loads hand (sent_ends s event actor job) (sent_loads s (at_hand (open_among s.requests loads) hand) event actor tab.trips job (subst (λ (t : Task). IsNoFragment t) (sym task) tt));
         known = sent_known s event actor job tab.known;
         desks = shown_desks s event actor tab.desks job ordered target.entry epoch long at target.memo target.address task real no_earlier;
         ways = shown_ways s event actor tab.ways job d target.entry epoch long at target.memo target.address task show.found show.home;

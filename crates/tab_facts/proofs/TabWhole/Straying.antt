@@ -18,7 +18,7 @@ use Rattle.tab_ids.specs.declared.ReqId.{ReqId}
 use Rattle.tab_facts.proofs.TabWhole.Accepting.{strayed, strayed_flows, strayed_tab}
 use Rattle.tab_facts.proofs.TabWhole.Ending.{IsNoProcess}
 use Rattle.tab_facts.proofs.TabWhole.Refusing.{first_refused_tab}
-use Rattle.tab_facts.specs.TabWhole.Tab.{IsTab, at_hand}
+use Rattle.tab_facts.specs.TabWhole.Tab.{IsTab, at_hand, open_among}
 use Rattle.log_model.specs.declared.request.Request.TheVariants as requests
 use Rattle.log_model.specs.declared.row_kind.RowKind.TheVariants as rows
 
@@ -33,7 +33,7 @@ module _ (run : Option ReqId) {loads : List ReqId} (s : Seen) (event : ℕ) (act
   unparked : has_req s.parked req ≡ false
   unparked =
       let none : request_in s.requests req ≡ None = none_before s.requests (new_request req None (requests.Poke nav action)) req nr in
-      let nowhere : times_found req s.desks s.joined s.parked (at_hand loads []) ≡ 0 = tab.once req (rw none refl) ∙ rw none refl in
+      let nowhere : times_found req s.desks s.joined s.parked (at_hand (open_among s.requests loads) []) ≡ 0 = tab.once req (rw none refl) ∙ rw none refl in
       times_none req s.parked (omega (arith, nowhere))
 
   pub stray_flows : Flows turned_away

@@ -32,7 +32,8 @@ use Rattle.seen_facts.proofs.Rest.Kept.{IsNoMaking, left_kept}
 use Rattle.std.proofs.Common.{List, Option, subst, sym, ℕ, ◌≡◌}
 use Rattle.tab_ids.specs.declared.ReqId.{ReqId}
 use Rattle.tab_facts.proofs.TabWhole.Sending.{IsToMade, ordered_home, sent_home}
-use Rattle.tab_facts.specs.TabWhole.Tab.{IsTab, at_hand}
+use Rattle.tab_facts.proofs.TabWhole.OpenAmong.{once_on, sent_ends, trips_on}
+use Rattle.tab_facts.specs.TabWhole.Tab.{IsTab, at_hand, open_among}
 use Rattle.seen_facts.proofs.Transit.Rows.{told_ways}
 use Rattle.log_model.specs.declared.job.Task.TheVariants as tasks
 use Rattle.log_model.specs.declared.row_kind.RowKind.TheVariants as rows
@@ -55,8 +56,8 @@ tell_tab run loads hand s event actor tab job long at d task to =
       queued = queued_after run s event actor tab.queued (rows.Sent job) tt;
       loading = told_loading s event actor tab.loading job (subst (λ (t : Task). load_docs.MakesNone t) (sym task) tt) (subst (λ (t : Task). load_docs.ShowsNone t) (sym task) tt);
       fragments = sent_other_fragments s event actor tab.fragments job (subst (λ (t : Task). IsNoFragment t) (sym task) tt);
-      once = sent_once s (at_hand loads hand) event actor job tab.once;
-      trips = sent_loads s (at_hand loads hand) event actor tab.trips job (subst (λ (t : Task). IsNoFragment t) (sym task) tt);
+      once = once_on s (next s event actor (rows.Sent job)) loads hand (sent_ends s event actor job) (sent_once s (at_hand (open_among s.requests loads) hand) event actor job tab.once);
+      trips = trips_on s (next s event actor (rows.Sent job)) loads hand (sent_ends s event actor job) (sent_loads s (at_hand (open_among s.requests loads) hand) event actor tab.trips job (subst (λ (t : Task). IsNoFragment t) (sym task) tt));
       known = sent_known s event actor job tab.known;
       desks = told_desks s event actor tab.desks job (subst (λ (t : Task). desk_orders.IsTold t) (sym task) tt) (ordered_home run loads hand s tab job d to);
       ways = told_ways s event actor tab.ways job (tasks.Update long at) task tt;

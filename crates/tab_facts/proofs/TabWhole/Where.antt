@@ -4,7 +4,7 @@ use Rattle.seen_facts.proofs.Coord.Held.{without_same}
 use Rattle.seen_facts.proofs.Entry.Ends.{IsToEnd}
 use Rattle.seen_facts.proofs.Entry.Skips.{without_made}
 use Rattle.tab_facts.proofs.FragmentOrders.Ends.{WaitsNot}
-use Rattle.tab_facts.proofs.FrameWhole.Ending.{reqs_of, reqs_without, some_times}
+use Rattle.tab_facts.proofs.FrameWhole.Ending.{reqs_of, some_times}
 use Rattle.tab_facts.proofs.FrameWhole.Refusing.{none_without}
 use Rattle.seen_facts.specs.Hang.Members.{Has}
 use Rattle.seen_facts.specs.LoadWhereabouts.Whereabouts.{times_on_way, waits_to_fragment}
@@ -22,18 +22,13 @@ use Rattle.std.proofs.lemmas.Bool.{eqb-true}
 use Rattle.std.proofs.lemmas.List.Elements.{filter-append}
 use Rattle.std.specs.Prelude.{if◌then◌else◌, is_none, is_some, not}
 use Rattle.tab_ids.specs.declared.ReqId.{ReqId}
-use Rattle.tab_facts.specs.TabWhole.Tab.{IsTab, at_hand}
+use Rattle.tab_facts.proofs.TabWhole.OpenAmong.{due_open, ended_due, times_open}
+use Rattle.tab_facts.specs.TabWhole.Tab.{IsTab, at_hand, has_ended, open_among}
 
 -- it is in the queue, held back, at hand, or an ongoing load
 abbrev pub IsCarried : List ReqId → List Made → Seen → ReqId → Type 0
 IsCarried loads hand s req =
     (has_req s.joined req ≡ true) ⊎ ((has_req s.parked req ≡ true) ⊎ ((has_req (at_hand loads hand) req ≡ true) ⊎ (holds is_ongoing_load (request_in s.requests req) ≡ true)))
-
--- what is at hand once a request isn't
-pub hands_without : (req : ReqId) (loads : List ReqId) (hand : List Made) → at_hand (without_req req loads) (without_made req hand) ≡ without_req req (at_hand loads hand)
-hands_without req loads hand =
-    ap (λ (l : List ReqId). without_req req loads ++ l) (reqs_without req hand)
-    ∙ sym (filter-append (λ (r : ReqId). not (r.0 == req.0)) loads (reqs_of hand))
 
 -- what is of none of these
 pub none_at : (req : ReqId) (hand : List Made) (made : Made) → has_req (reqs_of hand) req ≡ false → Has hand made → (made.req.0 == req.0) ≡ true → ⊥
@@ -100,27 +95,56 @@ module _ (run : Option ReqId) (loads : List ReqId) (hand : List Made) (s : Seen)
           rw begun (rw waits refl)
 
   -- it is at one place while it is open, and nowhere else
-  pub all_once : times_found req s.desks s.joined s.parked (at_hand loads hand) + times_on_way (request_in s.requests req) ≡ times_due (request_in s.requests req)
+  pub all_once : times_found req s.desks s.joined s.parked (at_hand (open_among s.requests loads) hand) + times_on_way (request_in s.requests req) ≡ times_due (request_in s.requests req)
   all_once = by_load (is_of_load (request_in s.requests req)) refl
     where
-      by_load : (b : Bool) → is_of_load (request_in s.requests req) ≡ b → times_found req s.desks s.joined s.parked (at_hand loads hand) + times_on_way (request_in s.requests req) ≡ times_due (request_in s.requests req)
+      by_load : (b : Bool) → is_of_load (request_in s.requests req) ≡ b → times_found req s.desks s.joined s.parked (at_hand (open_among s.requests loads) hand) + times_on_way (request_in s.requests req) ≡ times_due (request_in s.requests req)
       by_load true load = tab.trips req load
       by_load false other = (let once = tab.once req other in let none = no_way other in omega (arith, once, none))
 
-  pub at_most_once : over (times_at req) s.desks + (times req s.joined + (times req s.parked + (times req loads + times req (reqs_of hand)))) + times_on_way (request_in s.requests req) < 2
+  -- one that has ended is at none, and doesn't wait
+  pub ended_nowhere : holds has_ended (request_in s.requests req) ≡ true → times_found req s.desks s.joined s.parked (at_hand (open_among s.requests loads) hand) + times_on_way (request_in s.requests req) ≡ 0
+  ended_nowhere over = all_once ∙ ended_due (request_in s.requests req) over
+
+  pub at_most_once : over (times_at req) s.desks + (times req s.joined + (times req s.parked + (times req (open_among s.requests loads) + times req (reqs_of hand)))) + times_on_way (request_in s.requests req) < 2
   at_most_once =
       let small : times_due (request_in s.requests req) < 2 = due_small (request_in s.requests req) in
-      let parts : times req (at_hand loads hand) ≡ times req loads + times req (reqs_of hand) = times_append req loads (reqs_of hand) in
+      let parts : times req (at_hand (open_among s.requests loads) hand) ≡ times req (open_among s.requests loads) + times req (reqs_of hand) = times_append req (open_among s.requests loads) (reqs_of hand) in
       omega (arith, all_once, small, parts)
+
+  -- one that is in the queue, held back, made something that is at hand, or is on its way hasn't ended
+  pub found_open : 0 < times req s.joined + (times req s.parked + (times req (reqs_of hand) + times_on_way (request_in s.requests req))) → holds has_ended (request_in s.requests req) ≡ false
+  found_open some =
+      let parts : times req (at_hand (open_among s.requests loads) hand) ≡ times req (open_among s.requests loads) + times req (reqs_of hand) = times_append req (open_among s.requests loads) (reqs_of hand) in
+      let due : 0 < times_due (request_in s.requests req) = omega (arith, all_once, some, parts) in
+      due_open (request_in s.requests req) due
+
+  -- so it isn't among the loads
+  pub found_unloaded : 0 < times req s.joined + (times req s.parked + (times req (reqs_of hand) + times_on_way (request_in s.requests req))) → times req loads ≡ 0
+  found_unloaded some =
+      let same : times req (open_among s.requests loads) ≡ times req loads = times_open s.requests req loads (found_open some) in
+      omega (arith, at_most_once, same, some)
+
+  -- at hand, where it hasn't ended
+  pub open_held : holds has_ended (request_in s.requests req) ≡ false → has_req (at_hand loads hand) req ≡ true → 0 < times req (at_hand (open_among s.requests loads) hand)
+  open_held open_ held =
+      let n : 0 < times req (at_hand loads hand) = some_times req (at_hand loads hand) held in
+      let same : times req (open_among s.requests loads) ≡ times req loads = times_open s.requests req loads open_ in
+      let all : times req (at_hand loads hand) ≡ times req loads + times req (reqs_of hand) = times_append req loads (reqs_of hand) in
+      let parts : times req (at_hand (open_among s.requests loads) hand) ≡ times req (open_among s.requests loads) + times req (reqs_of hand) = times_append req (open_among s.requests loads) (reqs_of hand) in
+      omega (arith, n, same, all, parts)
 
   -- at one of these places it is at no desk
   pub carried_off : IsCarried loads hand s req → over (times_at req) s.desks ≡ 0
   carried_off (inl joined) = (let n : 0 < times req s.joined = some_times req s.joined joined in omega (arith, n, at_most_once))
   carried_off (inr (inl parked)) = (let n : 0 < times req s.parked = some_times req s.parked parked in omega (arith, n, at_most_once))
-  carried_off (inr (inr (inl held))) =
-      let n : 0 < times req (at_hand loads hand) = some_times req (at_hand loads hand) held in
-      let small : times_due (request_in s.requests req) < 2 = due_small (request_in s.requests req) in
-      omega (arith, n, all_once, small)
+  carried_off (inr (inr (inl held))) = by_end (holds has_ended (request_in s.requests req)) refl
+    where
+      by_end : (b : Bool) → holds has_ended (request_in s.requests req) ≡ b → over (times_at req) s.desks ≡ 0
+      by_end true e = (let none = ended_nowhere e in omega (arith, none))
+      by_end false e =
+          let small : times_due (request_in s.requests req) < 2 = due_small (request_in s.requests req) in
+          omega (arith, open_held e held, all_once, small)
   carried_off (inr (inr (inr ongoing))) =
       let way : 0 < times_on_way (request_in s.requests req) = on_way (request_in s.requests req) ongoing in
       omega (arith, way, at_most_once)
@@ -129,16 +153,19 @@ module _ (run : Option ReqId) (loads : List ReqId) (hand : List Made) (s : Seen)
   pub carried_waits_not : IsCarried loads hand s req → WaitsNot s.requests req
   carried_waits_not carried = by_place carried
     where
-      nowhere : 1 ≤ times req s.joined + (times req s.parked + (times req loads + times req (reqs_of hand))) → WaitsNot s.requests req
-      nowhere some = no_wait (request_in s.requests req) (omega (arith, some, at_most_once))
+      by_end : has_req (at_hand loads hand) req ≡ true → (b : Bool) → holds has_ended (request_in s.requests req) ≡ b → times_on_way (request_in s.requests req) ≡ 0
+      by_end held true e = (let none = ended_nowhere e in omega (arith, none))
+      by_end held false e =
+          let small : times_due (request_in s.requests req) < 2 = due_small (request_in s.requests req) in
+          omega (arith, open_held e held, all_once, small)
 
       by_place : IsCarried loads hand s req → WaitsNot s.requests req
-      by_place (inl joined) = nowhere (let n : 0 < times req s.joined = some_times req s.joined joined in omega (arith, n))
-      by_place (inr (inl parked)) = nowhere (let n : 0 < times req s.parked = some_times req s.parked parked in omega (arith, n))
+      by_place (inl joined) =
+          no_wait (request_in s.requests req) (let n : 0 < times req s.joined = some_times req s.joined joined in omega (arith, n, at_most_once))
+      by_place (inr (inl parked)) =
+          no_wait (request_in s.requests req) (let n : 0 < times req s.parked = some_times req s.parked parked in omega (arith, n, at_most_once))
       by_place (inr (inr (inl held))) =
-          let n : 0 < times req (at_hand loads hand) = some_times req (at_hand loads hand) held in
-          let parts : times req (at_hand loads hand) ≡ times req loads + times req (reqs_of hand) = times_append req loads (reqs_of hand) in
-          nowhere (omega (arith, n, parts))
+          no_wait (request_in s.requests req) (by_end held (holds has_ended (request_in s.requests req)) refl)
       by_place (inr (inr (inr ongoing))) =
           ongoing_no_wait (request_in s.requests req) ongoing (let few : times_on_way (request_in s.requests req) < 2 = omega (arith, at_most_once) in few)
 
@@ -154,7 +181,7 @@ module _ (run : Option ReqId) (loads : List ReqId) (hand : List Made) (s : Seen)
       let n : 0 < times req s.joined = some_times req s.joined joined in
       record {
         parked = times_none req s.parked (omega (arith, n, at_most_once));
-        loads_ = times_none req loads (omega (arith, n, at_most_once));
+        loads_ = times_none req loads (found_unloaded (omega (arith, n)));
         hands = times_none req (reqs_of hand) (omega (arith, n, at_most_once));
       }
 
@@ -162,7 +189,7 @@ module _ (run : Option ReqId) (loads : List ReqId) (hand : List Made) (s : Seen)
   way_unheld way =
       record {
         parked = times_none req s.parked (omega (arith, way, at_most_once));
-        loads_ = times_none req loads (omega (arith, way, at_most_once));
+        loads_ = times_none req loads (found_unloaded (omega (arith, way)));
         hands = times_none req (reqs_of hand) (omega (arith, way, at_most_once));
       }
 

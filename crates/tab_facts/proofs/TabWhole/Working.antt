@@ -54,7 +54,8 @@ use Rattle.tab_ids.specs.declared.NavId.{NavId}
 use Rattle.tab_ids.specs.declared.ProcId.{ProcId}
 use Rattle.tab_ids.specs.declared.ReqId.{ReqId}
 use Rattle.tab_ids.specs.declared.StateId.{StateId}
-use Rattle.tab_facts.specs.TabWhole.Tab.{IsTab, at_hand}
+use Rattle.tab_facts.proofs.TabWhole.OpenAmong.{finished_ends, once_on, trips_on}
+use Rattle.tab_facts.specs.TabWhole.Tab.{IsTab, at_hand, open_among}
 use Rattle.seen_facts.proofs.Transit.Rows.{finished_ways, taken_ways}
 use Rattle.seen_facts.specs.Transit.Orders.{IsOutcomeOf}
 use Rattle.log_model.specs.declared.job.Task.TheVariants as tasks
@@ -104,8 +105,8 @@ module _ (run : Option ReqId) {loads : List ReqId} (s : Seen) (event : ℕ) (pro
           queued = queued_after run s event (actors.Proc proc) tab.queued (rows.Taken proc job.nr true dirty) tt;
           loading = taken_loading s event (actors.Proc proc) tab.loading proc job.nr true dirty;
           fragments = taken_fragments s event (actors.Proc proc) tab.fragments proc job dirty free first;
-          once = taken_once s (at_hand loads []) event (actors.Proc proc) proc job.nr true dirty tab.once;
-          trips = taken_loads s (at_hand loads []) event (actors.Proc proc) tab.trips proc job.nr true dirty;
+          once = taken_once s (at_hand (open_among s.requests loads) []) event (actors.Proc proc) proc job.nr true dirty tab.once;
+          trips = taken_loads s (at_hand (open_among s.requests loads) []) event (actors.Proc proc) tab.trips proc job.nr true dirty;
           known = taken_known s event (actors.Proc proc) proc job.nr true dirty tab.known;
           desks = taken_desks s event (actors.Proc proc) tab.desks proc job dirty free;
           ways = taken_ways s event (actors.Proc proc) tab.ways proc job dirty free first;
@@ -221,8 +222,8 @@ module _ (run : Option ReqId) {loads : List ReqId} (s : Seen) (event : ℕ) (pro
           queued = queued_after run s event (actors.Proc proc) tab.queued (rows.Finished proc order.job.nr outcome) tt;
           loading = finished_loading s event (actors.Proc proc) tab.loading proc order.job.nr outcome;
           fragments = finished_other_fragments s event (actors.Proc proc) tab.fragments proc order.job.nr outcome order in_hand other;
-          once = finished_once s (at_hand loads []) event (actors.Proc proc) proc order.job.nr outcome tab.once;
-          trips = finished_loads s (at_hand loads []) event (actors.Proc proc) tab.trips proc order.job.nr outcome;
+          once = once_on s finished loads [] (finished_ends s event (actors.Proc proc) proc order.job.nr outcome) (finished_once s (at_hand (open_among s.requests loads) []) event (actors.Proc proc) proc order.job.nr outcome tab.once);
+          trips = trips_on s finished loads [] (finished_ends s event (actors.Proc proc) proc order.job.nr outcome) (finished_loads s (at_hand (open_among s.requests loads) []) event (actors.Proc proc) tab.trips proc order.job.nr outcome);
           known = finished_known s event (actors.Proc proc) proc order.job.nr outcome tab.known;
           desks = finished_desks s event (actors.Proc proc) tab.desks proc order outcome in_hand its;
           ways = finished_ways s event (actors.Proc proc) tab.ways proc order outcome in_hand its;

@@ -12,11 +12,7 @@ use Rattle.log_model.specs.declared.row.Row.{Row}
 use Rattle.std.specs.Prelude.{Bool, List, None, Option, Some, filter, is_some, length, true, ℕ, ◌+◌, ◌<◌, ◌&&◌, ◌||◌, ◌≡◌, ◌≤◌}
 use Rattle.tab_ids.specs.declared.NavId.{NavId}
 use Rattle.tab_ids.specs.declared.ReqId.{ReqId}
-pub use Rattle.tab_facts.specs.TabWhole.Tab.{IsTab}
-
--- the request has ended
-abbrev pub has_ended : Asked → Bool
-has_ended q = is_some q.ending
+pub use Rattle.tab_facts.specs.TabWhole.Tab.{IsTab, has_ended}
 
 -- it has ended, or is a load that has begun, for which a document state was numbered then
 abbrev pub has_spent : Asked → Bool

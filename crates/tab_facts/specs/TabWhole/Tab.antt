@@ -1,9 +1,10 @@
 -- All that holds between two rows of a tab with frames, loads and documents that are left or kept, in which nobody died and nobody is asked.
 -- This project's own.
-use Rattle.std.specs.Prelude.{List, Option, ◌++◌, map}
+use Rattle.std.specs.Prelude.{Bool, List, Option, filter, is_some, map, not, ◌++◌}
 use Rattle.tab_ids.specs.declared.ReqId.{ReqId}
 use Rattle.log_model.specs.declared.made.Made.{Made}
-use Rattle.log_model.specs.Seen.{Seen}
+use Rattle.log_model.specs.Equal.{holds}
+use Rattle.log_model.specs.Seen.{Asked, Seen, request_in}
 use Rattle.log_model.specs.Soundness.{IsSound}
 use Rattle.seen_facts.specs.Asked.Asking.{ArePlain}
 use Rattle.seen_facts.specs.Desk.Own.{AreDesksIn}
@@ -26,11 +27,19 @@ use Rattle.seen_facts.specs.Rest.Between.{AreKept}
 use Rattle.tab_facts.specs.Shown.Shown.{AreShown}
 use Rattle.seen_facts.specs.Transit.Waiting.{AreOnTheirWay}
 
+-- the request has ended
+abbrev pub has_ended : Asked → Bool
+has_ended q = is_some q.ending
+
+-- those of these requests that haven't ended
+abbrev pub open_among : List Asked → List ReqId → List ReqId
+open_among asked reqs = filter (λ (req : ReqId). not (holds has_ended (request_in asked req))) reqs
+
 -- the requests at hand: those that were accepted and have gone nowhere yet, which are loads and pokes that reach no document, in the event, and loads in their unload check; and those of which a document made something that is to be taken up or dropped in the event
 abbrev pub at_hand : List ReqId → List Made → List ReqId
 at_hand loads hand = loads ++ map (λ (made : Made). made.req) hand
 
--- with this traversal running, and these at hand
+-- with this traversal running, and these at hand; of the loads and pokes, those that have ended since count no more
 pub record IsTab (run : Option ReqId) (loads : List ReqId) (hand : List Made) (s : Seen) : Type 0 where
   -- the history, and how navigables hang in it
   pub sound : IsSound s.history
@@ -49,8 +58,8 @@ pub record IsTab (run : Option ReqId) (loads : List ReqId) (hand : List Made) (s
   pub queued : IsQueued run s
   pub loading : AreLoading s
   pub fragments : AreFragments s
-  pub once : AreOnce s (at_hand loads hand)
-  pub trips : AreLoadsOnce s (at_hand loads hand)
+  pub once : AreOnce s (at_hand (open_among s.requests loads) hand)
+  pub trips : AreLoadsOnce s (at_hand (open_among s.requests loads) hand)
   pub known : AreKnown s
   -- the processes: what each has, what is on its way, and what documents made that the history doesn't have
   pub desks : AreDesksIn s
