@@ -4,6 +4,8 @@ use Rattle.tab_facts.specs.Last.Lasting.{AreLasting}
 use Rattle.log_model.specs.After.{ended}
 use Rattle.log_model.specs.AfterPlaces.{sleepers_below}
 use Rattle.log_model.specs.AfterRequests.{on_served, request_served, requests_sent, with_activated, with_moved}
+use Rattle.log_model.specs.Equal.{has_req}
+use Rattle.log_model.specs.Places.{is_load}
 use Rattle.log_model.specs.Seen.{Asked, Document, Seen, document_of, place_of, request_of}
 use Rattle.log_model.specs.declared.job.Job.{Job}
 use Rattle.log_model.specs.declared.job.Task.{Task}
@@ -15,6 +17,7 @@ use Rattle.log_model.specs.declared.outcome.Ending.{Ending}
 use Rattle.log_model.specs.declared.row_kind.Actor.{Actor}
 use Rattle.log_model.specs.declared.row_kind.RowKind.{RowKind}
 use Rattle.seen_facts.proofs.Request.Readers.{IsBlind}
+use Rattle.seen_facts.specs.Request.Whereabouts.{is_of_load}
 use Rattle.std.proofs.Common.{Bool, List, None, Option, Some, [], ap, arith, false, length, refl, subst, sym, true, ℕ, ◌+◌, ◌<◌, ◌||◌, ◌∙◌, ◌≡◌, ◌≤◌}
 use Rattle.std.specs.Option.{option_map_or}
 use Rattle.tab_facts.proofs.TabGoing.Counts.{as_many, count_more, count_same}
@@ -23,6 +26,8 @@ use Rattle.tab_facts.proofs.TabGoing.HeldUp.{dropped_held, refused_held, sent_he
 use Rattle.tab_facts.proofs.TabGoing.Steps.{steps_still}
 use Rattle.tab_facts.specs.TabGoing.Going.{AreHeldUp, IsGoing, count_of, has_ended, has_spent}
 use Rattle.tab_ids.specs.declared.ReqId.{ReqId}
+use Rattle.tab_facts.proofs.Last.Rows.{dropped_lasting}
+use Rattle.tab_facts.proofs.TabWhole.Refusing.{listed_load_dropped_tab}
 use Rattle.tab_facts.specs.TabWhole.Tab.{IsTab}
 use Rattle.log_model.specs.declared.job.Task.TheVariants as tasks
 use Rattle.log_model.specs.declared.job.Why.TheVariants as whys
@@ -154,3 +159,8 @@ module _ (run : Option ReqId) (loads : List ReqId) (hand : List Made) (s : Seen)
       pub dropped_going : (cause : Cause) (now : List ReqId) (left : List Made) → IsTab run now left (then_ (rows.Dropped req cause)) → AreLasting (then_ (rows.Dropped req cause)) → IsGoing run now left (then_ (rows.Dropped req cause))
       dropped_going cause now left tab lasting =
           ends_going (then_ (rows.Dropped req cause)) now left (endings.Dropped cause) refl refl refl refl refl refl (dropped_held run s event actor going.held req cause) tab lasting
+
+      -- a load that is dropped at hand, while the list of those at hand stays
+      pub listed_dropped_going : is_load q.what ≡ true → has_req loads req ≡ true → (cause : Cause) → IsGoing run loads hand (then_ (rows.Dropped req cause))
+      listed_dropped_going load listed cause =
+          dropped_going cause loads hand (listed_load_dropped_tab run loads hand s event going.tab req (ap is_of_load there ∙ load) listed actor cause) (dropped_lasting s event actor going.lasting req cause)

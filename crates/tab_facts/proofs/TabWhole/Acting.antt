@@ -8,7 +8,7 @@ use Rattle.tab_facts.proofs.Past.Places.{same_last}
 use Rattle.tab_facts.proofs.Past.Rows.{acted_row_past, still_past}
 use Rattle.seen_facts.proofs.Asked.Rows.{made_plain, refused_plain}
 use Rattle.seen_facts.proofs.Coord.Flowings.{left_flows, made_flows}
-use Rattle.seen_facts.proofs.Coord.Held.{held_apart, without_same}
+use Rattle.seen_facts.proofs.Coord.Held.{held_apart}
 use Rattle.seen_facts.proofs.Coord.Unread.{next, refused_held, refused_left}
 use Rattle.seen_facts.specs.Coord.Flowing.{Flows}
 use Rattle.seen_facts.proofs.Desk.Rows.{made_desks, unmade_desks}

@@ -2,7 +2,7 @@
 use Rattle.seen_facts.proofs.Coord.Unread.{next}
 use Rattle.seen_facts.specs.Each.Runs.{is_this}
 use Rattle.seen_facts.proofs.Entry.Skips.{without_made}
-use Rattle.tab_facts.proofs.FrameWhole.Ending.{reqs_of, some_times}
+use Rattle.tab_facts.proofs.FrameWhole.Ending.{reqs_of}
 use Rattle.tab_facts.proofs.FrameWhole.Refusing.{none_without, turn_joined}
 use Rattle.seen_facts.specs.LoadWhereabouts.Whereabouts.{times_on_way, ways_of}
 use Rattle.log_model.specs.After.{ended}
@@ -18,14 +18,14 @@ use Rattle.log_model.specs.declared.outcome.Ending.{Ending}
 use Rattle.log_model.specs.declared.outcome.Ending.TheVariants as endings
 use Rattle.log_model.specs.declared.request.Request.{Request}
 use Rattle.log_model.specs.declared.row_kind.Actor.{Actor}
-use Rattle.seen_facts.proofs.Request.Times.{itself, times_append, times_none}
-use Rattle.seen_facts.specs.Request.Whereabouts.{is_of_load, times, times_due}
-use Rattle.std.proofs.Common.{Bool, List, None, Option, Some, [], ap, arith, false, inl, inr, refl, subst, sym, true, ℕ, ◌&&◌, ◌+◌, ◌++◌, ◌<◌, ◌==◌, ◌||◌, ◌∙◌, ◌∷◌, ◌≡◌}
+use Rattle.seen_facts.proofs.Request.Times.{itself, times_none}
+use Rattle.seen_facts.specs.Request.Whereabouts.{is_of_load, times_due}
+use Rattle.std.proofs.Common.{Bool, List, None, Option, Some, [], ap, arith, false, inl, inr, refl, subst, sym, true, ℕ, ◌&&◌, ◌++◌, ◌<◌, ◌==◌, ◌||◌, ◌∙◌, ◌∷◌, ◌≡◌}
 use Rattle.tab_ids.specs.declared.ReqId.{ReqId}
 use Rattle.tab_facts.proofs.TabWhole.Ending.{IsNoProcess, MayEnd, dropped_tab, refused_tab}
-use Rattle.tab_facts.proofs.TabWhole.OpenAmong.{ended_first, ended_itself, tab_alike, tab_else, times_open}
-use Rattle.tab_facts.proofs.TabWhole.Where.{IsCarried, IsUnheld, all_once, at_most_once, ended_nowhere, joined_unheld, nothing_goes, open_held, unheld_end, unheld_hand, unheld_loads, way_unheld}
-use Rattle.tab_facts.specs.TabWhole.Tab.{IsTab, at_hand, has_ended, open_among}
+use Rattle.tab_facts.proofs.TabWhole.OpenAmong.{ended_first, ended_itself, tab_alike, tab_else}
+use Rattle.tab_facts.proofs.TabWhole.Where.{IsCarried, IsNowhereElse, IsUnheld, all_once, joined_unheld, listed_alone, nothing_goes, open_held, unheld_end, unheld_hand, unheld_loads, way_unheld}
+use Rattle.tab_facts.specs.TabWhole.Tab.{IsTab, at_hand, has_ended}
 use Rattle.log_model.specs.declared.request.Request.TheVariants as requests
 use Rattle.log_model.specs.declared.row_kind.RowKind.TheVariants as rows
 
@@ -65,20 +65,8 @@ module _ (run : Option ReqId) (loads : List ReqId) (hand : List Made) (s : Seen)
   held : has_req (at_hand loads hand) req ≡ true
   held = listed_on req loads (reqs_of hand) listed
 
-  -- it is at no other place
-  once_here : (times req s.parked ≡ 0) × (times req (reqs_of hand) ≡ 0)
-  once_here = by_end (holds has_ended (request_in s.requests req)) refl
-    where
-      by_end : (b : Bool) → holds has_ended (request_in s.requests req) ≡ b → (times req s.parked ≡ 0) × (times req (reqs_of hand) ≡ 0)
-      by_end true e =
-          let none = ended_nowhere run loads hand s tab req e in
-          let parts : times req (at_hand (open_among s.requests loads) hand) ≡ times req (open_among s.requests loads) + times req (reqs_of hand) = times_append req (open_among s.requests loads) (reqs_of hand) in
-          (omega (arith, none), omega (arith, none, parts))
-      by_end false e =
-          let some : 0 < times req loads = some_times req loads listed in
-          let same : times req (open_among s.requests loads) ≡ times req loads = times_open s.requests req loads e in
-          let all = at_most_once run loads hand s tab req in
-          (omega (arith, all, same, some), omega (arith, all, same, some))
+  alone : IsNowhereElse run loads hand s tab req
+  alone = listed_alone run loads hand s tab req listed
 
   -- it was accepted, so it has ended then
   over : (ending : Ending) → holds has_ended (request_in (ended s.requests req ending) req) ≡ true
@@ -93,14 +81,14 @@ module _ (run : Option ReqId) (loads : List ReqId) (hand : List Made) (s : Seen)
       by_found (Some q) e = ended_itself s.requests req q ending e
 
   hand_left : without_made req hand ≡ hand
-  hand_left = none_without req hand (times_none req (reqs_of hand) once_here.1)
+  hand_left = none_without req hand (times_none req (reqs_of hand) alone.hands)
 
   its_end : MayEnd run loads hand s req
   its_end =
       record {
         other = other;
         carried = inr (inr (inl held));
-        passed = nothing_goes hand s req (times_none req s.parked once_here.0) (times_none req (reqs_of hand) once_here.1);
+        passed = nothing_goes hand s req (times_none req s.parked alone.parked) (times_none req (reqs_of hand) alone.hands);
       }
 
   stays : (t : Seen) → holds has_ended (request_in t.requests req) ≡ true → IsTab run (without_req req loads) (without_made req hand) t → IsTab run loads hand t

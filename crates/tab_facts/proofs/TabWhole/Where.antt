@@ -17,10 +17,9 @@ use Rattle.seen_facts.proofs.Request.Endings.{due_small}
 use Rattle.seen_facts.proofs.Request.Times.{times_append, times_none}
 use Rattle.seen_facts.specs.Request.Whereabouts.{is_of_load, times, times_at, times_due, times_found}
 use Rattle.seen_laws.proofs.Sums.{over}
-use Rattle.std.proofs.Common.{Bool, List, None, Option, Some, [], ap, arith, false, inl, inr, refl, sym, true, ℕ, ◌&&◌, ◌+◌, ◌++◌, ◌<◌, ◌==◌, ◌≤◌, ◌||◌, ◌∙◌, ◌∷◌, ◌≡◌, ◌⊎◌}
+use Rattle.std.proofs.Common.{Bool, List, None, Option, Some, [], ap, arith, false, inl, inr, refl, sym, true, ℕ, ◌&&◌, ◌+◌, ◌<◌, ◌==◌, ◌||◌, ◌∙◌, ◌∷◌, ◌≡◌, ◌⊎◌}
 use Rattle.std.proofs.lemmas.Bool.{eqb-true}
-use Rattle.std.proofs.lemmas.List.Elements.{filter-append}
-use Rattle.std.specs.Prelude.{if◌then◌else◌, is_none, is_some, not}
+use Rattle.std.specs.Prelude.{if◌then◌else◌, is_none, is_some}
 use Rattle.tab_ids.specs.declared.ReqId.{ReqId}
 use Rattle.tab_facts.proofs.TabWhole.OpenAmong.{due_open, ended_due, times_open}
 use Rattle.tab_facts.specs.TabWhole.Tab.{IsTab, at_hand, has_ended, open_among}
@@ -133,6 +132,37 @@ module _ (run : Option ReqId) (loads : List ReqId) (hand : List Made) (s : Seen)
       let all : times req (at_hand loads hand) ≡ times req loads + times req (reqs_of hand) = times_append req loads (reqs_of hand) in
       let parts : times req (at_hand (open_among s.requests loads) hand) ≡ times req (open_among s.requests loads) + times req (reqs_of hand) = times_append req (open_among s.requests loads) (reqs_of hand) in
       omega (arith, n, same, all, parts)
+
+  -- it is at no other place than in the list of those at hand
+  pub record IsNowhereElse : Type 0 where
+    pub joined : times req s.joined ≡ 0
+    pub parked : times req s.parked ≡ 0
+    pub hands : times req (reqs_of hand) ≡ 0
+    pub way : times_on_way (request_in s.requests req) ≡ 0
+
+  -- so it is of each in that list
+  pub listed_alone : has_req loads req ≡ true → IsNowhereElse
+  listed_alone listed = by_end (holds has_ended (request_in s.requests req)) refl
+    where
+      by_end : (b : Bool) → holds has_ended (request_in s.requests req) ≡ b → IsNowhereElse
+      by_end true e =
+          let parts : times req (at_hand (open_among s.requests loads) hand) ≡ times req (open_among s.requests loads) + times req (reqs_of hand) = times_append req (open_among s.requests loads) (reqs_of hand) in
+          let none = ended_nowhere e in
+          record {
+            joined = omega (arith, none);
+            parked = omega (arith, none);
+            hands = omega (arith, none, parts);
+            way = omega (arith, none);
+          }
+      by_end false e =
+          let some : 0 < times req loads = some_times req loads listed in
+          let same : times req (open_among s.requests loads) ≡ times req loads = times_open s.requests req loads e in
+          record {
+            joined = omega (arith, at_most_once, same, some);
+            parked = omega (arith, at_most_once, same, some);
+            hands = omega (arith, at_most_once, same, some);
+            way = omega (arith, at_most_once, same, some);
+          }
 
   -- at one of these places it is at no desk
   pub carried_off : IsCarried loads hand s req → over (times_at req) s.desks ≡ 0
