@@ -4,6 +4,7 @@ use Rattle.std.specs.Prelude.{option_map}
 use Rattle.tab_ids.specs.declared.ReqId.{ReqId}
 use Rattle.log_model.specs.declared.job.Job.{Job}
 use Rattle.log_model.specs.declared.made.Made.{Made}
+use Rattle.log_model.specs.Equal.{holds}
 use Rattle.log_model.specs.Seen.{Asked, Seen, desk_of, request_in}
 use Rattle.seen_facts.specs.Asked.Asking.{ArePlain}
 use Rattle.seen_facts.specs.Coord.Leading.{held_back}
@@ -24,7 +25,8 @@ use Rattle.seen_facts.proofs.Request.Onces.{once_again}
 use Rattle.seen_facts.proofs.Request.Readers.{SameReads}
 use Rattle.tab_facts.specs.FrameWhole.Beside.{IsQueued}
 use Rattle.tab_facts.specs.Shown.Shown.{LoadsArePlaced}
-use Rattle.tab_facts.specs.TabWhole.Tab.{IsTab, at_hand}
+use Rattle.tab_facts.specs.TabWhole.Tab.{IsTab, at_hand, has_ended, open_among}
+use Rattle.tab_facts.proofs.TabWhole.OpenAmong.{SameEnds, once_on, trips_on}
 use Rattle.tab_facts.proofs.FragmentOrders.Fates.{fate, same_fragments}
 use Rattle.tab_facts.proofs.FrameTab.Skips.{IsPassed, Skips, skips_same}
 use Rattle.tab_facts.proofs.FrameWhole.FlowsEnds.{ends_if}
@@ -73,8 +75,8 @@ module _ (s : Seen) (next : List Asked) (events jobs states : ℕ) (finished : O
     pub loading : AreLoading with_asked
     pub placed : LoadsArePlaced with_asked
     pub movers : AreMovers with_asked
-    pub once : AreOnce s (at_hand loads hand)
-    pub trips : AreLoadsOnce with_asked (at_hand loads hand)
+    pub once : AreOnce s (at_hand (open_among s.requests loads) hand)
+    pub trips : AreLoadsOnce with_asked (at_hand (open_among s.requests loads) hand)
 
   module _ (same : AreAlike s.requests next) (was : Option ReqId) (before : List ReqId) (hand : List Made) (tab : IsTab was before hand s) where
     -- the desks are as they were
@@ -88,6 +90,10 @@ module _ (s : Seen) (next : List Asked) (events jobs states : ℕ) (finished : O
     -- whoever was asked still is
     stay : StayAsked s.requests next
     stay req q at = let now = is_asked but_begun s.requests next same req q at in (now.0, now.1)
+
+    -- each has ended just where it had
+    ends : SameEnds s.requests next
+    ends = read_alike (λ o. holds has_ended o) (λ q. refl) s.requests next same
 
     -- what was made of each, and taken for it, stays
     keeps : KeepsAsked s.requests next
@@ -136,8 +142,8 @@ module _ (s : Seen) (next : List Asked) (events jobs states : ℕ) (finished : O
           queued = begun.queued;
           loading = begun.loading;
           fragments = same_fragments s with_asked (read_alike (λ o. option_map fate o) (λ q. refl) s.requests next same) (λ r. refl) tab.fragments;
-          once = once_again s with_asked (at_hand loads hand) (at_hand loads hand) (read_alike (λ o. option_map core o) (λ q. refl) s.requests next same) (λ r. refl) begun.once;
-          trips = begun.trips;
+          once = once_on s with_asked loads hand ends (once_again s with_asked (at_hand (open_among s.requests loads) hand) (at_hand (open_among s.requests loads) hand) (read_alike (λ o. option_map core o) (λ q. refl) s.requests next same) (λ r. refl) begun.once);
+          trips = trips_on s with_asked loads hand ends begun.trips;
           known = known_again s with_asked (record {
             cores = read_alike (λ o. option_map core o) (λ q. refl) s.requests next same;
             desks = λ desks. desks;

@@ -1,5 +1,5 @@
 -- What holds between two events while checks go on holds once a load is accepted, with it at hand: so it is in its check; and once one that is in its check is dropped; and as a traversal joins the queue, or leaves it in its check.
-use Rattle.std.proofs.Common.{◌≡◌, ℕ, ℤ, suc, ◌+◌, ◌<◌, Bool, true, false, cond, not, ◌||◌, ◌&&◌, ◌==◌, List, [], ◌∷◌, length, map, Option, Some, None, refl, sym, ap, ◌∙◌, arith}
+use Rattle.std.proofs.Common.{◌≡◌, ℕ, ℤ, suc, ◌+◌, ◌<◌, Bool, true, false, not, ◌||◌, ◌&&◌, ◌==◌, List, [], ◌∷◌, length, map, Option, Some, None, refl, sym, ap, ◌∙◌, arith}
 use Rattle.std.specs.Prelude.{option_map, if◌then◌else◌}
 use Rattle.std.specs.List.{list_all, list_any}
 use Rattle.std.proofs.lemmas.Bool.{and_parts}
@@ -37,7 +37,7 @@ use Rattle.tab_facts.specs.TabEvents.Between.{IsBetweenChecks, has_order}
 use Rattle.tab_facts.specs.TabWhole.Tab.{IsTab}
 use Rattle.tab_facts.proofs.TabWhole.Accepting as accepting
 use Rattle.tab_facts.proofs.TabWhole.Refusing.{hand_load_dropped_tab, load_other, queued_dropped_tab}
-use Rattle.tab_facts.proofs.TabWhole.Where.{at_most_once}
+use Rattle.tab_facts.proofs.TabWhole.Where.{IsNowhereElse, at_most_once, listed_alone}
 use Rattle.unasked_tab.specs.Steady.{AreSteady}
 use Rattle.unasked_tab.proofs.Begun.{some_same}
 use Rattle.unasked_tab.proofs.Reordered.{AreAsOften, reordered_tab}
@@ -153,18 +153,15 @@ module _ (keep : ℕ) (run : Option ReqId) (loads : List ReqId) (waits : Bool) (
     gone_tab = hand_load_dropped_tab run req loads [] s event is.tab load actor cause
 
     -- it is at hand alone
-    alone : (times req s.joined ≡ 0) × ((times req s.parked ≡ 0) × (times_on_way (request_in s.requests req) ≡ 0))
-    alone =
-        let own : (let n : ℕ = cond (req.0 == req.0) 1 0 in n) ≡ 1 = rw (nat_eq_refl req.0) refl in
-        let all = at_most_once run (req ∷ loads) [] s is.tab req in
-        (omega (arith, all, own), (omega (arith, all, own), omega (arith, all, own)))
+    alone : IsNowhereElse run (req ∷ loads) [] s is.tab req
+    alone = listed_alone run (req ∷ loads) [] s is.tab req (rw (nat_eq_refl req.0) refl)
 
     unparked : has_req s.parked req ≡ false
-    unparked = times_none req s.parked alone.1.0
+    unparked = times_none req s.parked alone.parked
 
     -- and hasn't begun
     idle : (q : Asked) → request_in s.requests req ≡ Some q → is_ongoing_load q ≡ false
-    idle q at = no_way q (sym (ap times_on_way at) ∙ alone.1.1)
+    idle q at = no_way q (sym (ap times_on_way at) ∙ alone.way)
 
     gone_steady : AreSteady s.requests gone.requests
     gone_steady =
@@ -177,7 +174,7 @@ module _ (keep : ℕ) (run : Option ReqId) (loads : List ReqId) (waits : Bool) (
     pub dropped_in_check : IsBetweenChecks keep run loads waits gone
     dropped_in_check =
         steady_between s gone.requests gone.desks gone.joined gone.parked gone.events gone.jobs gone.states gone.just_finished gone.has_stood keep run (req ∷ loads) loads waits is gone_tab gone_steady
-        (λ none free. without_same s.joined req (times_none req s.joined alone.0)) (without_same s.parked req unparked) (orders_on req s.desks)
+        (λ none free. without_same s.joined req (times_none req s.joined alone.joined)) (without_same s.parked req unparked) (orders_on req s.desks)
         (left_flows s gone (dropped_left s event actor req cause) refl refl refl (dropped_held s event actor req cause unparked) is.flows)
         (dropped_rests s event actor [] is.rests req cause)
 

@@ -79,6 +79,7 @@ module _ (run : Option ReqId) (req : ReqId) (rest : List ReqId) (hand : List Mad
       load_tab run req rest hand s tab q nav mode address (record {
         there = is.there;
         what = is.what;
+        open_ = is.open_;
         placed = is.placed;
         unsent = is.unsent;
       }) b starts (fresh_loading s tab.loading req q nav mode address is unmade b state owns fresh)

@@ -6,6 +6,7 @@ use Rattle.tab_ids.specs.declared.ReqId.{ReqId}
 use Rattle.log_model.specs.declared.made.Made.{Made}
 use Rattle.log_model.specs.declared.request.Mode.{Mode}
 use Rattle.log_model.specs.declared.request.Request.TheVariants as requests
+use Rattle.log_model.specs.Equal.{holds}
 use Rattle.log_model.specs.Places.{is_load}
 use Rattle.log_model.specs.Seen.{Asked, Seen, request_in, request_of}
 use Rattle.seen_facts.specs.Asked.Asking.{ArePlain, IsAskedPlainly}
@@ -24,7 +25,8 @@ use Rattle.seen_facts.proofs.LoadWhereabouts.Others.{load_not_at_hand}
 use Rattle.seen_facts.proofs.Request.Placings.{one_if}
 use Rattle.seen_facts.proofs.Request.Readers.{on_read}
 use Rattle.tab_facts.specs.Shown.Shown.{LoadsArePlaced}
-use Rattle.tab_facts.specs.TabWhole.Tab.{IsTab, at_hand}
+use Rattle.tab_facts.specs.TabWhole.Tab.{IsTab, at_hand, has_ended, open_among}
+use Rattle.tab_facts.proofs.TabWhole.OpenAmong.{first_once, first_trips, unended_open}
 use Rattle.unasked.proofs.Passings.{begun_as}
 use Rattle.unasked_tab.specs.Passing.{IsToPass}
 use Rattle.unasked_tab.proofs.Alike.{alike_tab}
@@ -80,9 +82,19 @@ module _ (run : Option ReqId) (req : ReqId) (rest : List ReqId) (hand : List Mad
       of_what : requests.Load nav mode address ≡ requests.Load n m a → nav ≡ n
       of_what same = cc
 
-  -- it was at hand, and nowhere else
-  was : whereabouts.IsAtHand q × (times_found req s.desks s.joined s.parked (at_hand rest hand) ≡ 0)
-  was = whereabouts.at_hand s (at_hand rest hand) req q is.there its_load tab.trips
+  -- the others at hand that haven't ended
+  abbrev others : List ReqId
+  others = at_hand (open_among s.requests rest) hand
+
+  its_open : holds has_ended (request_in s.requests req) ≡ false
+  its_open = ap (λ (o : Option Asked). holds has_ended o) is.there ∙ unended_open q is.open_
+
+  -- it was at hand with them, and nowhere else
+  was_trips : AreLoadsOnce s (req ∷ others)
+  was_trips = first_trips s req rest hand its_open tab.trips
+
+  was : whereabouts.IsAtHand q × (times_found req s.desks s.joined s.parked others ≡ 0)
+  was = whereabouts.at_hand s others req q is.there its_load was_trips
 
   -- and it is on its way
   way : ways_of (begun_as b q) ≡ 1
@@ -95,15 +107,15 @@ module _ (run : Option ReqId) (req : ReqId) (rest : List ReqId) (hand : List Mad
       waits_not x y none = omega (arith, none)
 
   -- each load is where it is to be
-  trips : AreLoadsOnce (with_begun s req b) (at_hand rest hand)
+  trips : AreLoadsOnce (with_begun s req b) others
   trips =
-      but_one s (with_begun s req b) (at_hand (req ∷ rest) hand) (at_hand rest hand) req (record {
+      but_one s (with_begun s req b) (req ∷ others) others req (record {
         others = λ r apart. on_else s.requests req (begun_as b) r apart;
         elsewhere = λ r apart. (let none : one_if req r ≡ 0 = one_other req r apart in omega (arith, none));
         one = λ load. once;
-      }) tab.trips
+      }) was_trips
     where
-      once : times_of_load req (begun s req b) s.desks s.joined s.parked (at_hand rest hand) ≡ times_due (request_in (begun s req b) req)
+      once : times_of_load req (begun s req b) s.desks s.joined s.parked others ≡ times_due (request_in (begun s req b) req)
       once =
           let ways : times_on_way (request_in (begun s req b) req) ≡ 1 = ap times_on_way now ∙ way in
           let due : times_due (request_in (begun s req b) req) ≡ 1 = ap times_due now ∙ rw was.0.unended refl in
@@ -118,6 +130,6 @@ module _ (run : Option ReqId) (req : ReqId) (rest : List ReqId) (hand : List Mad
         loading = loading;
         placed = placed;
         movers = begun_movers s req b starts tab.movers;
-        once = load_not_at_hand s (at_hand rest hand) req (ap is_of_load is.there ∙ its_load) tab.once;
+        once = load_not_at_hand s others req (ap is_of_load is.there ∙ its_load) (first_once s req rest hand its_open tab.once);
         trips = trips;
       })

@@ -20,7 +20,7 @@ use Rattle.seen_facts.proofs.Load.Rows.{KeepLooks, changed_looks}
 use Rattle.seen_facts.proofs.LoadWhereabouts.Counts.{but_one}
 use Rattle.seen_facts.proofs.Request.Readers.{on_read}
 use Rattle.tab_facts.specs.FrameWhole.Beside.{IsQueued}
-use Rattle.tab_facts.specs.TabWhole.Tab.{IsTab, at_hand}
+use Rattle.tab_facts.specs.TabWhole.Tab.{IsTab, at_hand, open_among}
 use Rattle.tab_facts.proofs.TabWhole.Beginning.{IsToGo, no_load}
 use Rattle.unasked.proofs.Passings.{begun_as}
 use Rattle.unasked_tab.proofs.Alike.{alike_tab, read_alike}
@@ -92,9 +92,9 @@ module _ (loads : List ReqId) (hand : List Made) (s : Seen) (tab : IsTab None lo
       by_test x stays = rw stays (none (b.is_started && is_none x.ending))
 
   -- each load is where it was
-  trips : AreLoadsOnce (with_begun s req b) (at_hand loads hand)
+  trips : AreLoadsOnce (with_begun s req b) (at_hand (open_among s.requests loads) hand)
   trips =
-      but_one s (with_begun s req b) (at_hand loads hand) (at_hand loads hand) req (record {
+      but_one s (with_begun s req b) (at_hand (open_among s.requests loads) hand) (at_hand (open_among s.requests loads) hand) req (record {
         others = λ r apart. on_else s.requests req (begun_as b) r apart;
         elsewhere = λ r apart. refl;
         one = λ load. (let never : false ≡ true = sym (read_alike is_of_load (λ x. refl) s.requests (begun s req b) (begun_alike s req b) req ∙ other) ∙ load in absurd cc);

@@ -1,13 +1,15 @@
 -- The requests at hand may stand in any order.
-use Rattle.std.proofs.Common.{◌≡◌, List, ◌∷◌, ◌++◌, Option, map, refl, arith}
+use Rattle.std.proofs.Common.{◌≡◌, Bool, true, false, List, ◌∷◌, ◌++◌, Option, map, refl, sym, ◌∙◌, arith}
 use Rattle.tab_ids.specs.declared.ReqId.{ReqId}
 use Rattle.log_model.specs.declared.made.Made.{Made}
-use Rattle.log_model.specs.Seen.{Seen}
+use Rattle.log_model.specs.Equal.{holds}
+use Rattle.log_model.specs.Seen.{Seen, request_in}
 use Rattle.seen_facts.specs.Request.Whereabouts.{times}
 use Rattle.seen_facts.proofs.LoadWhereabouts.Counts.{loads_again}
 use Rattle.seen_facts.proofs.Request.Onces.{SameTimes, once_again}
 use Rattle.seen_facts.proofs.Request.Times.{times_append}
-use Rattle.tab_facts.specs.TabWhole.Tab.{IsTab, at_hand}
+use Rattle.tab_facts.specs.TabWhole.Tab.{IsTab, at_hand, has_ended, open_among}
+use Rattle.tab_facts.proofs.TabWhole.OpenAmong.{times_ended, times_open}
 
 -- each is as often in the one list as in the other
 abbrev pub AreAsOften : List ReqId → List ReqId → Type 0
@@ -19,10 +21,18 @@ amid_often front req behind r =
     omega (arith, times_append r front behind, times_append r front (req ∷ behind))
 
 module _ (run : Option ReqId) (loads other : List ReqId) (hand : List Made) (s : Seen) (same : AreAsOften loads other) where
+  -- so it is of those that haven't ended
+  still : AreAsOften (open_among s.requests loads) (open_among s.requests other)
+  still r = by_end (holds has_ended (request_in s.requests r)) refl
+    where
+      by_end : (b : Bool) → holds has_ended (request_in s.requests r) ≡ b → times r (open_among s.requests other) ≡ times r (open_among s.requests loads)
+      by_end true e = times_ended s.requests r other e ∙ sym (times_ended s.requests r loads e)
+      by_end false e = times_open s.requests r other e ∙ same r ∙ sym (times_open s.requests r loads e)
+
   -- with what documents made, too
-  found : SameTimes s (at_hand loads hand) s (at_hand other hand)
+  found : SameTimes s (at_hand (open_among s.requests loads) hand) s (at_hand (open_among s.requests other) hand)
   found r =
-      omega (arith, same r, times_append r loads (map (λ (made : Made). made.req) hand), times_append r other (map (λ (made : Made). made.req) hand))
+      omega (arith, still r, times_append r (open_among s.requests loads) (map (λ (made : Made). made.req) hand), times_append r (open_among s.requests other) (map (λ (made : Made). made.req) hand))
 
   -- what holds of the tab holds in either order
   pub reordered_tab : IsTab run loads hand s → IsTab run other hand s
@@ -41,8 +51,8 @@ module _ (run : Option ReqId) (loads other : List ReqId) (hand : List Made) (s :
         queued = tab.queued;
         loading = tab.loading;
         fragments = tab.fragments;
-        once = once_again s s (at_hand loads hand) (at_hand other hand) (λ r. refl) found tab.once;
-        trips = loads_again s s (at_hand loads hand) (at_hand other hand) (λ r. refl) found tab.trips;
+        once = once_again s s (at_hand (open_among s.requests loads) hand) (at_hand (open_among s.requests other) hand) (λ r. refl) found tab.once;
+        trips = loads_again s s (at_hand (open_among s.requests loads) hand) (at_hand (open_among s.requests other) hand) (λ r. refl) found tab.trips;
         known = tab.known;
         desks = tab.desks;
         ways = tab.ways;

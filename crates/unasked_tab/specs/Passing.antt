@@ -1,4 +1,4 @@
--- What a load that passes its unload check is: of a navigable that is there, and sent to no document; and a document state that was numbered, and is nothing's yet.
+-- What a load that passes its unload check is: of a navigable that is there, without an outcome, and sent to no document; and a document state that was numbered, and is nothing's yet.
 -- HTML Standard, "Beginning navigation" ("navigate") and "document state"; numbers of document states are this project's own.
 use Rattle.std.specs.Prelude.{◌≡◌, ℕ, ◌≤◌, true, List, Some, None}
 use Rattle.tab_ids.specs.declared.DocId.{DocId}
@@ -14,10 +14,11 @@ use Rattle.seen_facts.specs.Hang.Members.{Has}
 use Rattle.seen_facts.specs.Home.Homes.{document_in}
 use Rattle.seen_facts.specs.Load.Loading.{Look, is_ongoing, look_of}
 
--- the request is a load of the navigable, which is there, and no document was sent to a fragment for it
+-- the request is a load of the navigable, which is there, it hasn't ended, and no document was sent to a fragment for it
 pub record IsToPass (s : Seen) (req : ReqId) (q : Asked) (nav : NavId) (mode : Mode) (address : List ℕ) : Type 0 where
   pub there : request_of s req ≡ Some q
   pub what : q.what ≡ requests.Load nav mode address
+  pub open_ : q.ending ≡ None
   pub placed : HasPlace s.places nav
   pub unsent : q.fragment ≡ None
 
