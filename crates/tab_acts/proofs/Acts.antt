@@ -37,7 +37,7 @@ use Rattle.tab_acts.proofs.Events.{alone_acts, seen_room}
 use Rattle.tab_acts.proofs.Readings.{core_read, found_off, found_read, input_read}
 use Rattle.tab_doors.specs.declared.tables.Tables.{Tables}
 use Rattle.tab_facts.proofs.TabWhole.Acting.{not_running, unjoined}
-use Rattle.tab_facts.specs.TabWhole.Tab.{at_hand}
+use Rattle.tab_facts.specs.TabWhole.Tab.{at_hand, open_among}
 use Rattle.tab_ids.specs.declared.DocId.{DocId}
 use Rattle.tab_ids.specs.declared.NavId.{NavId}
 use Rattle.tab_ids.specs.declared.ProcId.{ProcId}
@@ -99,7 +99,7 @@ module _ (e : InEvent) (t : Tables) (queue : Queue) (blame : List (StateId × Re
 
   pub its_asked : Asks
   its_asked =
-      by_found (request_in e.start.requests poke.req) refl (subst (λ (c : Option Core). IsPoke c poke) (core_read e.checking e.start poke.req) (first_poke (seen_start e) (at_hand check.loads []) proc poke seen_first stands.between.tab.once stands.between.tab.known))
+      by_found (request_in e.start.requests poke.req) refl (subst (λ (c : Option Core). IsPoke c poke) (core_read e.checking e.start poke.req) (first_poke (seen_start e) (at_hand (open_among (seen_start e).requests check.loads) []) proc poke seen_first stands.between.tab.once stands.between.tab.known))
     where
       by_found : (o : Option Asked) → request_in e.start.requests poke.req ≡ o → IsPoke (core_of o) poke → Asks
       by_found None at k = (let never : None ≡ Some _ = k.is in absurd cc)

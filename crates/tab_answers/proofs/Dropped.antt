@@ -84,7 +84,7 @@ module _ (s : Seen) (t : Tables) (queue : Queue) (blame : List (StateId × ReqId
 
   between : IsBetweenChecks t.kept.keep run loads check.holds n
   between =
-      between_left t.kept.keep run check.loads check.holds s stands.between req hand q found load event actor cause
+      between_left t.kept.keep run check.loads check.holds s stands.between req hand q found load event actor cause open_
 
   idle : is_ongoing_load q ≡ false
   idle = idle_hand t.kept.keep run check.loads check.holds s stands.between req hand q found load

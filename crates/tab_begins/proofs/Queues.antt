@@ -1,4 +1,5 @@
 -- The queue over the turns of its steps: the first one is off, and the others wait on.
+use Rattle.tab_facts.specs.TabWhole.Tab.{open_among}
 use Rattle.tab_facts.specs.Calm.Calm.{HasUsable}
 use Rattle.seen_facts.proofs.Coord.Held.{without_same}
 use Rattle.tab_facts.specs.Frame.Lasting.{Wish, wish}
@@ -154,7 +155,7 @@ module _ (run : Option ReqId) (at : List ReqId) (hand : List Made) (s : Seen) (t
       ap (λ (l : List ReqId). without_req req l) joined
       ∙ (let same : (req.0 == req.0) ≡ true = nat_eq_refl req.0 in rw same (without_same rest req (times_none req rest none)))
     where
-      once : over (times_at req) s.desks + (times req s.joined + (times req s.parked + times req (at_hand at hand))) ≡ times_due (request_in s.requests req)
+      once : over (times_at req) s.desks + (times req s.joined + (times req s.parked + times req (at_hand (open_among s.requests at) hand))) ≡ times_due (request_in s.requests req)
       once = tab.once req (ap is_of_load found ∙ no_load q.what goes)
 
       in_front : times req s.joined ≡ 1 + times req rest

@@ -126,6 +126,7 @@ module _ (l : InLoad) (t : Tables) (asked : IsAsked l t) (placed_ : away_in t l.
       load_begun_tab t.running l.req l.loads [] n l.event.event l.event.actor made.going.tab own l.nav l.mode l.address (record {
         there = made.found;
         what = refl;
+        open_ = refl;
         placed = record { place = own_place; found = there };
         unsent = refl;
         alone = λ other m at on its. made.alone other (record { look = m; at = at; ongoing = on; loads_it = its });

@@ -8,7 +8,7 @@ use Rattle.tab_stands.proofs.Logged.{with_lawful}
 use Rattle.tab_stands.proofs.Accepting.{accepted_row}
 use Rattle.load_doors.proofs.Starts.{next_start}
 use Rattle.row_facts.proofs.Owed.Rows.{refused_lasts}
-use Rattle.tab_facts.specs.TabWhole.Tab.{at_hand}
+use Rattle.tab_facts.specs.TabWhole.Tab.{at_hand, open_among}
 use Rattle.tab_doors.proofs.PassedOn.{refused_goes}
 use Rattle.load_doors.specs.Refusing.{IsDeniedLoad}
 use Rattle.load_doors.specs.Tied.{AreTied}
@@ -85,7 +85,7 @@ module _ (e : InEvent) (t : Tables) (queue : Queue) (blame : List (StateId × Re
   none_before : request_in s.requests req ≡ None
   none_before = none_in s.requests (q e req nav mode address asks) req (next_start e req.0 asks.next)
 
-  nowhere : times_found req s.desks s.joined s.parked (at_hand check.loads []) ≡ 0
+  nowhere : times_found req s.desks s.joined s.parked (at_hand (open_among s.requests check.loads) []) ≡ 0
   nowhere = stands.between.tab.once req (rw none_before refl) ∙ rw none_before refl
 
   unparked_before : has_req s.parked req ≡ false

@@ -25,7 +25,7 @@ use Rattle.tab_ids.specs.declared.ReqId.{ReqId}
 use Rattle.load_doors.proofs.Starts.{next_start}
 use Rattle.load_doors.specs.Logged.{seen_start}
 use Rattle.tab_loads.specs.Loading.{IsLoadAsk}
-use Rattle.tab_facts.proofs.TabWhole.Where.{at_most_once}
+use Rattle.tab_facts.proofs.TabWhole.Where.{IsNowhereElse, listed_alone}
 use Rattle.tab_facts.specs.TabWhole.Tab.{IsTab}
 use Rattle.log_model.specs.declared.request.Request.TheVariants as requests
 use Rattle.log_model.specs.declared.row_kind.RowKind.TheVariants as rows
@@ -68,16 +68,14 @@ module _ (e : InEvent) (req : ReqId) (nav : NavId) (mode : Mode) (address : List
   of_load = ap is_of_load found
 
   module _ (run : Option ReqId) {behind : List ReqId} (tab : IsTab run (req ∷ behind) [] (now_of e [])) where
-    own : (let n : ℕ = cond (req.0 == req.0) 1 0 in n) ≡ 1
-    own = rw (itself req) refl
+    alone : IsNowhereElse run (req ∷ behind) [] (now_of e []) tab req
+    alone = listed_alone run (req ∷ behind) [] (now_of e []) tab req (rw (itself req) refl)
 
     pub unjoined : has_req (now_of e []).joined req ≡ false
-    unjoined =
-        times_none req (now_of e []).joined (let all = at_most_once run (req ∷ behind) [] (now_of e []) tab req in omega (arith, all, own))
+    unjoined = times_none req (now_of e []).joined alone.joined
 
     pub unparked : has_req (now_of e []).parked req ≡ false
-    unparked =
-        times_none req (now_of e []).parked (let all = at_most_once run (req ∷ behind) [] (now_of e []) tab req in omega (arith, all, own))
+    unparked = times_none req (now_of e []).parked alone.parked
 
     pub open_here : IsOpenHere e [] req
     open_here = record { asked = q; at = found; open_ = refl; unparked = unparked; unheld = ap (λ (l : List ReqId). has_req l req) (sym (uncut_held e asks.uncut)) ∙ unparked }

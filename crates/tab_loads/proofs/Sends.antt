@@ -119,7 +119,7 @@ module _ (e : InEvent) (req : ReqId) (nav : NavId) (mode : Mode) (address : List
 
   pub tab_then : IsTab t.running behind [] then_
   tab_then =
-      send_fragment_tab t.running behind [] s e.event e.actor req pass.going.tab (q e req nav mode address asks) (record { found = found e req nav mode address asks; load = refl; unsent = refl }) order mode address home.document refl to_made
+      send_fragment_tab t.running behind [] s e.event e.actor req pass.going.tab (q e req nav mode address asks) (record { found = found e req nav mode address asks; load = refl; open_ = refl; unsent = refl }) order mode address home.document refl to_made
 
   going_then : IsGoing t.running behind [] then_
   going_then =

@@ -1,4 +1,5 @@
 -- The report that is held back first, once the traversal has ended: it is to be taken up, refused or dropped, and doesn't wait for another traversal.
+use Rattle.tab_facts.specs.TabWhole.Tab.{open_among}
 use Rattle.seen_facts.proofs.Coord.Held.{made_of}
 use Rattle.seen_facts.specs.Coord.Leading.{held_back}
 use Rattle.tab_takes.proofs.PassedOn.{all_once, done_here, start_here}
@@ -179,9 +180,9 @@ module _ (p : InPass) (out : List RowKind) (t : Tables) (passing : IsPassing p o
   rests = apart made.req first.q (may.old made.req has).0 first.there
 
   -- it is there once
-  once : over (times_at made.req) s.desks + (times made.req s.joined + (times made.req s.parked + times made.req (at_hand p.loads p.hand))) < 2
+  once : over (times_at made.req) s.desks + (times made.req s.joined + (times made.req s.parked + times made.req (at_hand (open_among s.requests p.loads) p.hand))) < 2
   once =
-      let all : times_found made.req s.desks s.joined s.parked (at_hand p.loads p.hand) + times_on_way (request_in s.requests made.req) ≡ times_due (request_in s.requests made.req) = all_once t.running p.loads p.hand s tab made.req in
+      let all : times_found made.req s.desks s.joined s.parked (at_hand (open_among s.requests p.loads) p.hand) + times_on_way (request_in s.requests made.req) ≡ times_due (request_in s.requests made.req) = all_once t.running p.loads p.hand s tab made.req in
       let few : times_due (request_in s.requests made.req) < 2 = due_small (request_in s.requests made.req) in
       omega (arith, all, few)
 

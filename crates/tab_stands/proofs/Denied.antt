@@ -1,4 +1,5 @@
 -- A request of the user is accepted, and refused in the same event: the coordinator stands for the log still.
+use Rattle.tab_facts.specs.TabWhole.Tab.{open_among}
 use Rattle.tab_doors.proofs.PassedOn.{refused_goes, refused_now}
 use Rattle.seen_facts.specs.Asked.Asking.{ArePlain}
 use Rattle.tab_settles.proofs.Puts.{put_makes}
@@ -145,7 +146,7 @@ module _ (e : InEvent) (t : Tables) (queue : Queue) (blame : List (StateId × Re
   none : request_in s.requests req ≡ None
   none = none_before s.requests asked req nr
 
-  nowhere : times_found req s.desks s.joined s.parked (at_hand check.loads []) ≡ 0
+  nowhere : times_found req s.desks s.joined s.parked (at_hand (open_among s.requests check.loads) []) ≡ 0
   nowhere = stands.between.tab.once req (rw none refl) ∙ rw none refl
 
   pub unparked : has_req s.parked req ≡ false

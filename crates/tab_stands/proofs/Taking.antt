@@ -1,4 +1,5 @@
 -- What a document made that changes the history is at hand as its report is delivered: it may be taken up, refused or dropped.
+use Rattle.tab_facts.specs.TabWhole.Tab.{open_among}
 use Rattle.seen_laws.proofs.InEvents.{now_is, uncut_first}
 use Rattle.load_doors.proofs.Starts.{made_real, requests_start}
 use Rattle.seen_laws.specs.Blocks.{Here}
@@ -98,13 +99,17 @@ module _ (e : InEvent) (proc : ProcId) (report : Report) (made : Made) (del : Is
 
   -- ---- it is at hand alone
 
-  once : times_found made.req n.desks n.joined n.parked (at_hand check.loads (made ∷ [])) + times_on_way (request_in n.requests made.req) ≡ times_due (request_in n.requests made.req)
+  -- beside the loads in their check that haven't ended
+  abbrev open_loads : List ReqId
+  open_loads = open_among n.requests check.loads
+
+  once : times_found made.req n.desks n.joined n.parked (at_hand open_loads (made ∷ [])) + times_on_way (request_in n.requests made.req) ≡ times_due (request_in n.requests made.req)
   once = all_once t.running check.loads (made ∷ []) n tab made.req
 
-  one_here : times made.req (at_hand check.loads (made ∷ [])) ≡ times made.req check.loads + 1
+  one_here : times made.req (at_hand open_loads (made ∷ [])) ≡ times made.req open_loads + 1
   one_here =
-      times_append made.req check.loads (made.req ∷ [])
-      ∙ ap (λ (k : ℕ). times made.req check.loads + k) (let own : times made.req (made.req ∷ []) ≡ 1 = rw (itself made.req) refl in own)
+      times_append made.req open_loads (made.req ∷ [])
+      ∙ ap (λ (k : ℕ). times made.req open_loads + k) (let own : times made.req (made.req ∷ []) ≡ 1 = rw (itself made.req) refl in own)
 
   pub unparked : has_req n.parked made.req ≡ false
   unparked = times_none made.req n.parked (let few = due_small (request_in n.requests made.req) in omega (arith, once, one_here, few))

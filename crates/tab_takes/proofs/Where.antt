@@ -1,4 +1,5 @@
 -- Where the request of what a document made is that is to be taken: held back or at hand, and nowhere else.
+use Rattle.tab_facts.proofs.TabWhole.Where.{found_unloaded}
 use Rattle.seen_facts.proofs.Coord.Held.{without_same}
 use Rattle.seen_facts.proofs.Entry.Skips.{without_made}
 use Rattle.tab_facts.specs.Frame.Taking.{IsWaitingHere}
@@ -69,8 +70,7 @@ module _ (p : InPass) (out : List RowKind) (t : Tables) (blame : List (StateId �
 
   unloaded : has_req p.loads made.req ≡ false
   unloaded =
-      let all = at_most_once t.running p.loads p.hand now_ whole made.req in
-      times_none made.req p.loads (omega (arith, all, there))
+      times_none made.req p.loads (found_unloaded t.running p.loads p.hand now_ whole made.req (omega (arith, there)))
 
   pub joined_same : without_req made.req now_.joined ≡ now_.joined
   joined_same = without_same now_.joined made.req unjoined
