@@ -40,7 +40,6 @@ impl Coordinator {
             &self.slots,
             out,
             &mut reasons,
-            false,
         )?;
         self.logged = reasons.logged;
         Ok(())

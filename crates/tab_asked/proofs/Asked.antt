@@ -233,7 +233,7 @@ module _ (p : InPass) (out : List RowKind) (t : Tables) (queue : Queue) (blame :
     lasts =
         record {
           checks = at_log (λ (x : Seen). AreInCheck entered x) goes.work.checks;
-          shows = event_under e rows_then passes.1 (both_coord out (begun_asking req (Some goal) jobs) of_coord (questions_coord jobs req (Some goal))) shows;
+          shows = event_under e rows_then [] passes.1 (both_coord out (begun_asking req (Some goal) jobs) of_coord (questions_coord jobs req (Some goal))) shows;
           duly = asked_duly e out e.checking before.lasts.duly sound_log hangs_bare homes_bare (at_bare IsCalm calm) req goal q over.first.at may.goes jobs asking.are;
           known = known_begun e out req (Some goal) questions jobs q may.asks asking.are (due_apart log e.checking sound_log hangs_bare homes_bare.homed q.what (Some goal)) before.lasts.known;
         }

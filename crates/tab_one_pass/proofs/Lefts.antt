@@ -17,7 +17,7 @@ use Rattle.tab_facts.specs.Frame.Lasting.{Wish, wish}
 use Rattle.tab_ids.specs.declared.NavId.{NavId}
 use Rattle.tab_ids.specs.declared.ReqId.{ReqId}
 use Rattle.tab_ids.specs.declared.StateId.{StateId}
-use Rattle.tab_one_pass.specs.PassedOn.{InPass, IsPassing}
+use Rattle.tab_one_pass.specs.PassedOn.{InPass, IsPassingIn}
 use Rattle.tab_one_pass.specs.Passing.{IsOpen, MayServe}
 use Rattle.tab_passes.specs.Leaving.{IsLeftDulyFor, WasOffOrLeft}
 pub use Rattle.tab_sweeps.proofs.MayLeaves.{begun_leaves, load_leaves, may_leave_on, may_leave_reads, may_leave_same, unbegun_leaves, way_same}
@@ -50,7 +50,7 @@ may_leave_left s t left req nav may =
 
 -- ---- before documents are discarded
 
-pub strays_are_left : (p : InPass) (out : List RowKind) (t : Tables) → IsPassing p out t → (cause : Why) → IsOpen p.event t.running cause (now_of p.event out) → (blame : List (StateId × ReqId)) → AreBlamed (now_of p.event out) blame → StraysAreLeft p.event out blame
+pub strays_are_left : {sweeps : Bool} (p : InPass) (out : List RowKind) (t : Tables) → IsPassingIn sweeps p out t → (cause : Why) → IsOpen p.event t.running cause (now_of p.event out) → (blame : List (StateId × ReqId)) → AreBlamed (now_of p.event out) blame → StraysAreLeft p.event out blame
 strays_are_left p out t pass cause so blame blamed doc state req stray noted = by_shower (shower_of p.event.start doc) refl
   where
     s : Seen

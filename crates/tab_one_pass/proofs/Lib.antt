@@ -8,9 +8,10 @@ pub mod Moves
 pub mod Calms
 pub mod Passes
 pub mod Orphans
+pub mod Quiets
 pub mod Gives
-pub mod Resumes
+pub mod Clears
+pub mod Served
 pub mod Wholes
 pub mod PassedOn
 pub mod Lives
-pub mod Quiets

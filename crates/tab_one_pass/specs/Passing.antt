@@ -1,7 +1,5 @@
 -- What one pass over a tab with loads asks of the log, what it puts out, and what it leaves, so that another one may follow.
 -- HTML Standard, "apply the history step" and "destroy a document"; that all this goes by passes is this project's own.
-use Rattle.seen_facts.specs.Hang.Members.{Has}
-use Rattle.tab_drops.specs.Dropping.{Drop}
 use Rattle.tab_facts.specs.Calm.Calm.{AreRooted, CalmUnless, HasUsable, IsCalm, IsCalmAround, IsCalmYet, KeepsCalm, UnmovedAreHere}
 use Rattle.tab_facts.specs.Calm.Loads.{LoadsHaveDocuments}
 use Rattle.tab_facts.specs.FrameWhole.Tab.{AreAwakeWithRows}
@@ -19,15 +17,12 @@ use Rattle.seen_facts.proofs.Request.Readers.{SameReads}
 use Rattle.seen_facts.specs.LoadEnds.Standing.{LoadsStand}
 use Rattle.seen_laws.specs.InEvent.{InEvent, now_of}
 use Rattle.std.specs.Map.{lookup}
-use Rattle.std.specs.Prelude.{Bool, List, None, Option, Some, [], false, is_some, length, true, ℕ, ◌++◌, ◌<◌, ◌∷◌, ◌≡◌, ◌⊎◌}
+use Rattle.std.specs.Prelude.{List, None, Option, Some, [], false, is_some, true, ℕ, ◌++◌, ◌∷◌, ◌≡◌}
 pub use Rattle.tab_drops.specs.Dropping.{AreUnheld, HasOnlyDestroyed, HasOnlyDroppedBy, IsBare, IsLoadOf, IsUnsettled, StandOrBare, StandOrMove}
-use Rattle.tab_doors.specs.Working.{KeepsStore}
-use Rattle.tab_doors.specs.declared.tables.Tables.{Tables}
 use Rattle.tab_ids.specs.declared.DocId.{DocId}
 use Rattle.tab_ids.specs.declared.NavId.{NavId}
 use Rattle.tab_ids.specs.declared.ReqId.{ReqId}
 use Rattle.tab_ids.specs.declared.StateId.{StateId}
-use Rattle.tab_passes.specs.Passing.{InPass, IsPassingIn}
 use Rattle.tab_serves.specs.Serving.{FreesVisited, HasOnlyServed, HasWalked, IsSince, KeepsUp}
 pub use Rattle.tab_serves.specs.PassedOn.{MayServe}
 pub use Rattle.tab_serves.specs.Serving.{DiscardsNone, DiscardsUnheld, LeavesVisited, StillAwake, MayCause, ParentsShown, show_why}
@@ -119,19 +114,11 @@ abbrev pub HasGivenWay : Seen → Option ReqId → List RowKind → List RowKind
 HasGivenWay s None was out = out ≡ was
 HasGivenWay s (Some by) was out = HasOnlyDroppedBy s by (IsUnsettled s) was out
 
--- the request is an ongoing load of a navigable without an entry
-pub record IsBareLoad (s : Seen) (req : ReqId) : Type 0 where
-  pub nav : NavId
-  pub load : IsLoadOf s req nav
-  pub bare : IsBare s nav
-
--- stray documents were discarded, each for the request that was noted for its state, until none was left, then loads of navigables without an entry dropped, which had none before
+-- stray documents were discarded, each for the request that was noted for its state, then loads of navigables without an entry dropped
 pub record HasClearedOut (e : InEvent) (blame : List (StateId × ReqId)) (was out : List RowKind) : Type 0 where
   pub swept : List RowKind
   pub sweeps : HasOnlySwept (now_of e was) blame was swept
-  pub none : NoneStray (now_of e swept)
   pub destroys : HasOnlyDestroyed (now_of e swept) swept out
-  pub bare : (d : Drop) → Has destroys.drops d → IsBareLoad (now_of e was) d.req
 
 -- all of it, in this order; then come the orders of the walk, which discard nothing where a step was in its check as the event began or was cut, and last those that tell length and index
 pub record HasPutOut (e : InEvent) (run : Option ReqId) (cause tells : Why) (was out : List RowKind) : Type 0 where
@@ -176,11 +163,32 @@ pub record LeavesCalm (run : Option ReqId) (s t : Seen) : Type 0 where
   pub rooted : AreRooted s → AreRooted t
   pub unmoved : (req : ReqId) → run ≡ Some req → UnmovedAreHere s → UnmovedAreHere t
 
--- ---- where it waits
+-- ---- from the walk on
 
--- the walk may come: no request is in its check, a traversal runs, or nothing was put out since there were so many rows
-abbrev pub MayGoOn : Bool → Bool → List RowKind → ℕ → Type 0
-MayGoOn asks runs out before = (asks ≡ false) ⊎ ((runs ≡ true) ⊎ (length out ≡ before))
+-- stray documents were discarded and loads of navigables without an entry dropped: what goes on; ongoing loads stand, who is awake has an entry; and whoever is visited in need and was shown a document has the event free
+pub record MayServeAll (e : InEvent) (run : Option ReqId) (keep : ℕ) (cause : Why) (s : Seen) : Type 0 where
+  pub open_ : IsOpen e run cause s
+  pub rows_ : AreAwakeWithRows s
+  pub loads : LoadsStand s
+  pub header : keep ≡ e.header.keep
+  pub frees : FreesVisited e s
+
+-- orders of the walk, which discard nothing where a step was in its check as the event began or was cut, and then those that tell length and index
+pub record HasServedAll (e : InEvent) (run : Option ReqId) (cause tells : Why) (was out : List RowKind) : Type 0 where
+  pub served : List RowKind
+  pub serves : HasOnlyServed run cause was served
+  pub quiet : DiscardsUnheld e was served
+  pub told : HasOnlyTold tells served out
+
+-- each document that is stray then was so before
+abbrev pub WereStray : Seen → Seen → Type 0
+WereStray s t = (doc : DocId) (state : StateId) → IsStray t doc state → IsStray s doc state
+
+-- for each stray document that is left a request is noted still
+abbrev pub KeepsLeftStrays : Seen → Seen → Type 0
+KeepsLeftStrays s t = (blame : List (StateId × ReqId)) → AreLeftStrays s blame → AreLeftStrays t blame
+
+-- ---- the run of discarded documents
 
 -- the last of the rows discards nothing
 pub record EndsRun (out : List RowKind) : Type 0 where
@@ -188,19 +196,3 @@ pub record EndsRun (out : List RowKind) : Type 0 where
   pub last : RowKind
   pub is : out ≡ before ++ last ∷ []
   pub none : DiscardsNone last
-
--- no traversal runs and the walk waits, since documents may have been discarded that were asked: what goes on until it, and all that was put out, which is something; its last row discards nothing, or no document is stray any more; and where ongoing loads stood before, a document was stray then, and none is any more
-pub record HasPaused (p : InPass) (cause tells : Why) (t : Tables) (was out : List RowKind) (u : Tables) (blame : List (StateId × ReqId)) : Type 0 where
-  pub idle : t.running ≡ None
-  pub passing : IsPassingIn true p out u
-  pub open_ : IsOpen p.event u.running cause (now_of p.event out)
-  pub loads : LoadsStand (now_of p.event out)
-  pub strays : AreLeftStrays (now_of p.event out) blame
-  pub rows_ : AreAwakeWithRows (now_of p.event out)
-  pub frees : FreesVisited p.event (now_of p.event out)
-  pub left : LeavesPass (now_of p.event was) (now_of p.event out)
-  pub only : HasPutOut p.event t.running cause tells was out
-  pub grown : length was < length out
-  pub ends : EndsRun out ⊎ NoneStray (now_of p.event out)
-  pub rests : LoadsStand (now_of p.event was) → (NoneStray (now_of p.event was) → ⊥) × NoneStray (now_of p.event out)
-  pub kept : KeepsStore t u

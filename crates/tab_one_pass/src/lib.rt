@@ -5,4 +5,4 @@ mod noting;
 mod passing;
 
 pub use noting::{note_entries, note_loads};
-pub use passing::pass;
+pub use passing::{clear_out, pass, serve_and_tell};

@@ -1,15 +1,15 @@
 //! One pass: ongoing loads give way, stray documents are discarded, who needs it is served, who is awake is told.
-ghost use Rattle.std.specs.Prelude.{◌≡◌, IfOk, OnOk, false, length, true};
+ghost use Rattle.std.specs.Prelude.{◌≡◌, ◌⊎◌, OnOk, false, true};
 ghost use Rattle.tab_facts.specs.FrameWhole.Tab.{AreAwakeWithRows};
 ghost use Rattle.seen_facts.specs.LoadEnds.Standing.{LoadsStand};
 ghost use Rattle.log_model.specs.ActsAtOnce.{ends_told};
 ghost use Rattle.seen_laws.specs.InEvent.{now_of};
 ghost use Rattle.tab_doors.specs.Working.{KeepsStore, MayDiscardIn};
 ghost use Rattle.tab_drops.specs.Dropping.{StandOrBare};
-ghost use Rattle.tab_one_pass.specs.Passing.{AreLeftStrays, HasClearedOut, HasGivenWay, HasPassed, HasPaused, HasPutOut, IsOpen, LeavesCalm, LeavesPass, MayGoOn, MayPass, MayStand, SendsForStrays, WereLoaded};
+ghost use Rattle.tab_one_pass.specs.Passing.{AreLeftStrays, EndsRun, HasClearedOut, HasGivenWay, HasPassed, HasPutOut, HasServedAll, IsOpen, KeepsLeftStrays, LeavesCalm, LeavesPass, MayPass, MayServeAll, MayStand, SendsForStrays, WereLoaded, WereStray};
 ghost use Rattle.tab_serves.specs.Serving.{FreesVisited, InPass, IsPassing};
 ghost use Rattle.tab_passes.specs.Passing.{IsPassingIn};
-ghost use Rattle.tab_sweeps.specs.Sweeping.{AreBlamed};
+ghost use Rattle.tab_sweeps.specs.Sweeping.{AreBlamed, NoneStray};
 ghost use Rattle.seen_facts.specs.Walk.Serving.{AreServed};
 
 use crate::noting::note_loads;
@@ -56,8 +56,8 @@ fn give_way(
     Ok(())
 }
 
-/// Each stray document is discarded, and then each ongoing load of a navigable without an entry is dropped. The document of such a load is left for the next pass.
-fn clear_out(
+/// The first part of a pass where no load gives way: each stray document is discarded, for the request that is noted in `blame` for its state, and then each ongoing load of a navigable without an entry is dropped. The document of such a load is left for the next pass, with the request in `blame`. HTML Standard, "destroy a document" and "destroy a child navigable".
+pub fn clear_out(
     alloc: Global,
     tables: &mut Tables,
     blame: &mut IndexMap<StateId, ReqId>,
@@ -65,7 +65,7 @@ fn clear_out(
     cause: Why,
 ) -> Result<(), OutOfMemory>
     ghost p: { InPass }
-    requires passing { IsPassing p out.old tables.old }
+    requires passing { IsPassingIn true p out.old tables.old }
     requires open_ { IsOpen p.event tables.old.running cause (now_of p.event out.old) }
     requires loads { StandOrBare (now_of p.event out.old) }
     requires blamed { AreBlamed (now_of p.event out.old) blame.old.entries }
@@ -79,6 +79,7 @@ fn clear_out(
     ensures rows { OnOk result (AreAwakeWithRows (now_of p.event out.new)) }
     ensures left { OnOk result (LeavesPass (now_of p.event out.old) (now_of p.event out.new)) }
     ensures only { OnOk result (HasClearedOut p.event blame.old.entries out.old out.new) }
+    ensures ends { OnOk result (EndsRun out.new ⊎ NoneStray (now_of p.event out.new)) }
     ensures kept { OnOk result (KeepsStore tables.old tables.new) }
 {
     sweep(alloc, tables, out, blame)?;
@@ -88,23 +89,35 @@ fn clear_out(
     Ok(())
 }
 
-/// Whether the walk may come: no request is in its check, a traversal runs, or no row was put out since there were so many.
-fn may_go_on(asks: bool, runs: bool, out: &Out, before: usize) -> bool
-    ensures goes { result ≡ true → MayGoOn asks runs out.now before }
-    ensures idle { result ≡ false → runs ≡ false }
-    ensures asks { result ≡ false → asks ≡ true }
-    ensures grown { result ≡ false → (length out.now ≡ before) → ⊥ }
+/// The rest of a pass, from its walk on, once stray documents were discarded and loads of navigables without an entry dropped: each navigable that needs it is shown its target, or has its document made; and who is awake is told the length and index that are due. `cause` is what orders are for that show or make documents where no traversal runs, and `tells` what those are for that tell. HTML Standard, "apply the history step".
+pub fn serve_and_tell(
+    alloc: Global,
+    header: &Header,
+    tables: &mut Tables,
+    out: &mut Out,
+    cause: Why,
+    tells: Why,
+) -> Result<(), OutOfMemory>
+    ghost p: { InPass }
+    requires passing { IsPassing p out.old tables.old }
+    requires header { header.now ≡ p.event.header }
+    requires may { MayServeAll p.event tables.old.running tables.old.kept.keep cause (now_of p.event out.old) }
+    ensures passing { OnOk result (IsPassing p out.new tables.new) }
+    ensures served { OnOk result (AreServed (now_of p.event out.new)) }
+    ensures told { OnOk result (ends_told (now_of p.event out.new) ≡ true) }
+    ensures passed { OnOk result (HasPassed p.event (now_of p.event out.new)) }
+    ensures strays { OnOk result (KeepsLeftStrays (now_of p.event out.old) (now_of p.event out.new)) }
+    ensures stray { OnOk result (WereStray (now_of p.event out.old) (now_of p.event out.new)) }
+    ensures left { OnOk result (LeavesPass (now_of p.event out.old) (now_of p.event out.new)) }
+    ensures only { OnOk result (HasServedAll p.event tables.old.running cause tells out.old out.new) }
+    ensures kept { OnOk result (KeepsStore tables.old tables.new) }
 {
-    if !asks {
-        return true;
-    }
-    if runs {
-        return true;
-    }
-    out.len() == before
+    serve_all(alloc, header, tables, out, cause)?;
+    tell_all(alloc, tables, out, tells)?;
+    Ok(())
 }
 
-/// One pass over the tab: where a traversal runs, the ongoing loads of those whom it moves give way to it; stray documents are discarded, each for the request that is noted in `blame` for its state, and loads of navigables without an entry dropped; each navigable that needs it is shown its target, or has its document made; and who is awake is told the length and index that are due. Where a request is in its check (`asks`), no traversal runs and something was discarded or dropped, it waits before the walk: answers whether it went on. `cause` is what orders are for that show or make documents where no traversal runs, and `tells` what those are for that tell. HTML Standard, "apply the history step".
+/// One pass over the tab: where a traversal runs, the ongoing loads of those whom it moves give way to it; stray documents are discarded, each for the request that is noted in `blame` for its state, and loads of navigables without an entry dropped; each navigable that needs it is shown its target, or has its document made; and who is awake is told the length and index that are due. `cause` is what orders are for that show or make documents where no traversal runs, and `tells` what those are for that tell. HTML Standard, "apply the history step".
 pub fn pass(
     alloc: Global,
     header: &Header,
@@ -113,36 +126,28 @@ pub fn pass(
     out: &mut Out,
     cause: Why,
     tells: Why,
-    asks: bool,
-) -> Result<bool, OutOfMemory>
+) -> Result<(), OutOfMemory>
     ghost p: { InPass }
     requires passing { IsPassing p out.old tables.old }
     requires header { header.now ≡ p.event.header }
     requires may { MayPass p.event tables.old.running tables.old.kept.keep cause (now_of p.event out.old) }
     requires blamed { AreBlamed (now_of p.event out.old) blame.old.entries }
     requires frees { FreesVisited p.event (now_of p.event out.old) }
-    requires bare { asks ≡ false → MayDiscardIn false p.event }
-    ensures passing { IfOk result (λ went. went ≡ true → IsPassing p out.new tables.new) }
-    ensures served { IfOk result (λ went. went ≡ true → AreServed (now_of p.event out.new)) }
-    ensures told { IfOk result (λ went. went ≡ true → ends_told (now_of p.event out.new) ≡ true) }
-    ensures strays { IfOk result (λ went. went ≡ true → AreLeftStrays (now_of p.event out.new) blame.new.entries) }
-    ensures loaded { IfOk result (λ went. went ≡ true → WereLoaded (now_of p.event out.old) (now_of p.event out.new)) }
-    ensures sent { IfOk result (λ went. went ≡ true → SendsForStrays (now_of p.event out.old) (now_of p.event out.new) out.old out.new) }
-    ensures passed { IfOk result (λ went. went ≡ true → HasPassed p.event (now_of p.event out.new)) }
-    ensures left { IfOk result (λ went. went ≡ true → LeavesPass (now_of p.event out.old) (now_of p.event out.new)) }
-    ensures calm { IfOk result (λ went. went ≡ true → LeavesCalm tables.old.running (now_of p.event out.old) (now_of p.event out.new)) }
-    ensures only { IfOk result (λ went. went ≡ true → HasPutOut p.event tables.old.running cause tells out.old out.new) }
-    ensures asked { IfOk result (λ went. went ≡ false → asks ≡ true) }
-    ensures paused { IfOk result (λ went. went ≡ false → HasPaused p cause tells tables.old out.old out.new tables.new blame.new.entries) }
+    requires free { MayDiscardIn false p.event }
+    ensures passing { OnOk result (IsPassing p out.new tables.new) }
+    ensures served { OnOk result (AreServed (now_of p.event out.new)) }
+    ensures told { OnOk result (ends_told (now_of p.event out.new) ≡ true) }
+    ensures strays { OnOk result (AreLeftStrays (now_of p.event out.new) blame.new.entries) }
+    ensures loaded { OnOk result (WereLoaded (now_of p.event out.old) (now_of p.event out.new)) }
+    ensures sent { OnOk result (SendsForStrays (now_of p.event out.old) (now_of p.event out.new) out.old out.new) }
+    ensures passed { OnOk result (HasPassed p.event (now_of p.event out.new)) }
+    ensures left { OnOk result (LeavesPass (now_of p.event out.old) (now_of p.event out.new)) }
+    ensures calm { OnOk result (LeavesCalm tables.old.running (now_of p.event out.old) (now_of p.event out.new)) }
+    ensures only { OnOk result (HasPutOut p.event tables.old.running cause tells out.old out.new) }
     ensures kept { OnOk result (KeepsStore tables.old tables.new) }
 {
     give_way(alloc, tables, blame, out, cause)?;
-    let before = out.len();
     clear_out(alloc, tables, blame, out, cause)?;
-    if !may_go_on(asks, tables.running.is_some(), out, before) {
-        return Ok(false);
-    }
-    serve_all(alloc, header, tables, out, cause)?;
-    tell_all(alloc, tables, out, tells)?;
-    Ok(true)
+    serve_and_tell(alloc, header, tables, out, cause, tells)?;
+    Ok(())
 }

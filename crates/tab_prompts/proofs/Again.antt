@@ -136,7 +136,7 @@ module _ {sweeps : Bool} (move : Option Move) (e : InEvent) (out : List RowKind)
       prompts_keep (λ s. s.just_finished ≡ None) e (λ s req doc is. refl) asking out (prompts_are told_then waited) (finished_since e out work.goes work.off begins.finished)
 
   -- so the event goes on as one that began
-  pub begins_again : ((req : ReqId) → is_waiting t.checks req ≡ true → Has waited req) → ((req : ReqId) (q : Asked) → request_of (log_of cut_then []) req ≡ Some q → is_traversal q.what ≡ true → Has waited req → is_settled_in told_then req ≡ true → IsNotedFor told_then req) → BeginsAsked cut_then told_then
+  pub begins_again : ((req : ReqId) (q : Asked) → request_of (log_of cut_then []) req ≡ Some q → is_traversal q.what ≡ true → is_waiting t.checks req ≡ true → Has waited req) → ((req : ReqId) (q : Asked) → request_of (log_of cut_then []) req ≡ Some q → is_traversal q.what ≡ true → Has waited req → is_settled_in told_then req ≡ true → IsNotedFor told_then req) → BeginsAsked cut_then told_then
   begins_again all noted =
       let stands = cut_stands move e out t work begins waited apart waits in
       record {

@@ -45,8 +45,8 @@ module _ {sweeps : Bool} (p : InPass) (out : List RowKind) (t : Tables) (queue :
   its_tables =
       tables_then p out t queue blame cause ready its_table its_prompts (prompts_are its_table waited) its_finished (spares its_spared)
 
-  -- where all that waited are among these, and about each traversal of them that is settled now the user was asked
-  pub ready_again : ((req : ReqId) → is_waiting t.checks req ≡ true → Has waited req) → ((req : ReqId) (q : Asked) → request_of (log_of its_pass.event []) req ≡ Some q → is_traversal q.what ≡ true → Has waited req → is_settled_in its_table req ≡ true → IsNotedFor its_table req) → IsReady its_pass [] its_tables queue blame cause
+  -- where all traversals that waited are among these, and about each of them that is settled now the user was asked
+  pub ready_again : ((req : ReqId) (q : Asked) → request_of (log_of its_pass.event []) req ≡ Some q → is_traversal q.what ≡ true → is_waiting t.checks req ≡ true → Has waited req) → ((req : ReqId) (q : Asked) → request_of (log_of its_pass.event []) req ≡ Some q → is_traversal q.what ≡ true → Has waited req → is_settled_in its_table req ≡ true → IsNotedFor its_table req) → IsReady its_pass [] its_tables queue blame cause
   ready_again all noted =
       ready_prompted p out t queue blame cause ready its_table its_prompts (prompts_are its_table waited) its_finished (spares its_spared) (left None p.event out t ready.passing.work begins waited apart waits) (cut_stands None p.event out t ready.passing.work begins waited apart waits) (cut_calm None p.event out t ready.passing.work begins waited apart waits all noted)
 

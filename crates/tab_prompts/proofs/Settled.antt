@@ -156,10 +156,10 @@ module _ {sweeps : Bool} (move : Option Move) (e : InEvent) (out : List RowKind)
         (stands_same (IsToCome move then_ []) left e (out ++ prompts) (record { checks = then_told; run = [] }) (owes_seen e out)
         (stands_less (Agreed (todo_of then_told) its_run e (out ++ prompts) (IsToCome move e (out ++ prompts))) (IsToCome move then_ []) left e (out ++ prompts) (record { checks = then_told; run = [] }) agrees settled_stands))
 
-    -- where all that waited are among these, and no traversal of them goes on, nobody has passed
-    pub cut_calm : ((req : ReqId) → is_waiting t.checks req ≡ true → Has waited req) → ((req : ReqId) (q : Asked) → request_of (log_of then_ []) req ≡ Some q → is_traversal q.what ≡ true → Has waited req → is_settled_in then_told req ≡ true → IsNotedFor then_told req) → NonePasses e.checking (log_of then_ [])
+    -- where all traversals that waited are among these, and none of them goes on, nobody has passed
+    pub cut_calm : ((req : ReqId) (q : Asked) → request_of (log_of then_ []) req ≡ Some q → is_traversal q.what ≡ true → is_waiting t.checks req ≡ true → Has waited req) → ((req : ReqId) (q : Asked) → request_of (log_of then_ []) req ≡ Some q → is_traversal q.what ≡ true → Has waited req → is_settled_in then_told req ≡ true → IsNotedFor then_told req) → NonePasses e.checking (log_of then_ [])
     cut_calm all noted req q at runs goes on =
-        cut_stands.none req q at runs goes on (left_none then_told waited (is_settled_since t.checks then_told) req (λ is. (let parts = and_parts (is_waiting t.checks req) (is_settled_in then_told req) is in let has = all req parts.0 in (has, noted req q at goes has parts.1))))
+        cut_stands.none req q at runs goes on (left_none then_told waited (is_settled_since t.checks then_told) req (λ is. (let parts = and_parts (is_waiting t.checks req) (is_settled_in then_told req) is in let has = all req q at goes parts.0 in (has, noted req q at goes has parts.1))))
 
     -- the coordinator goes on
     pub cut_works : {then_sweeps : Bool} → IsCalmIn then_sweeps e.checking (log_of then_ []) → IsAtWorkIn then_sweeps move then_ [] (record t { checks = then_told })

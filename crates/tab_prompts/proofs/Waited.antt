@@ -22,7 +22,8 @@ use Rattle.tab_prompts.specs.Prompts.{is_waiting}
 use Rattle.tab_prompts.specs.Sparing.{spares}
 use Rattle.tab_serves.specs.Serving.{DiscardsNone}
 use Rattle.tab_settles.specs.PassedOn.{HasOnly, InPass}
-use Rattle.tab_settles.specs.Settling.{EndsRun, IsReadyIn, NoneStray}
+use Rattle.tab_settles.specs.Held.{EndsRun, NoneStray}
+use Rattle.tab_settles.specs.Settling.{IsReadyIn}
 use Rattle.unload_check.specs.Checks.{OpenCheck}
 
 -- no run lasts behind a row that discards nothing

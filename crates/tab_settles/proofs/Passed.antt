@@ -16,17 +16,17 @@ use Rattle.log_model.specs.declared.job.Why.{Why}
 use Rattle.log_model.specs.declared.row_kind.RowKind.{RowKind}
 use Rattle.move_queue.specs.Queue.{Queue}
 use Rattle.seen_laws.specs.InEvent.{InEvent, now_of}
-use Rattle.std.proofs.Common.{Bool, List, None, Option, Some, ap, arith, false, inl, inr, length, length-append, refl, subst, sym, true, ℕ, ◌+◌, ◌<◌, ◌∙◌, ◌≡◌, ◌⊎◌}
-use Rattle.tab_releases.proofs.PassedOn.{aim_is, left_blamed, own_document, put_quiet, queue_left, stand_awake, stand_bare, waiting_passed}
+use Rattle.std.proofs.Common.{Bool, List, None, Option, Some, ap, false, inl, inr, refl, subst, sym, true, ℕ, ◌∙◌, ◌≡◌, ◌⊎◌}
+use Rattle.tab_releases.proofs.PassedOn.{aim_is, queue_left, stand_awake, waiting_passed}
 use Rattle.tab_releases.proofs.Releases.{IsByItsOwn, mades_same, queue_over}
 use Rattle.tab_facts.specs.TabEvents.Between.{AreSwept, orders_go}
-use Rattle.tab_releases.specs.PassedOn.{AreBlamed, AreLeftStrays, DiscardsUnheld, HasOnly, HasPassed, HasPaused, HasPutOut, HasQueue, KeepsStore, LeavesCalm, LeavesPass, LoadsLive, MayPass, MayStand, NoneStray, SendsForStrays, aim_in}
+use Rattle.tab_releases.specs.PassedOn.{AreBlamed, AreLeftStrays, HasOnly, HasPassed, HasPutOut, HasQueue, KeepsStore, LeavesCalm, LeavesPass, LoadsLive, MayPass, SendsForStrays, aim_in}
 use Rattle.tab_releases.specs.Releasing.{HoldsParked, InPass, IsPassing, LoadsMadeOwn, Tables}
 use Rattle.tab_ids.specs.declared.NavId.{NavId}
 use Rattle.tab_ids.specs.declared.ReqId.{ReqId}
 use Rattle.tab_ids.specs.declared.StateId.{StateId}
 use Rattle.seen_facts.specs.LoadEnds.Standing.{LoadsStand}
-use Rattle.tab_settles.proofs.Lates.{applied_after, late_after}
+use Rattle.tab_settles.proofs.Lates.{late_after}
 use Rattle.tab_settles.proofs.LoadsOff.{off_passed}
 use Rattle.tab_settles.proofs.MovedPasses.{put_shown}
 use Rattle.tab_settles.proofs.MovedRows.{shown_idle}
@@ -34,15 +34,16 @@ use Rattle.tab_settles.proofs.PutOuts.{only_applies_none, only_leaves, put_only,
 use Rattle.tab_settles.proofs.Sweeps.{swept_or}
 use Rattle.tab_settles.proofs.Puts.{pass_put, put_then}
 use Rattle.tab_settles.specs.Offs.{LateKnown}
-use Rattle.tab_settles.specs.Settling.{FreesVisited, HasPut, HasSettled, HasWaited, IsPassingIn, IsCalmAfter, IsCalmBefore, IsOrderOrDrop, IsQueueing, IsReady, LeavesOff, LeavesPut, MayRelease, MovedAreShown}
+use Rattle.tab_settles.specs.Settling.{FreesVisited, HasPut, HasSettled, IsPassingIn, IsReadyIn, IsCalmAfter, IsCalmBefore, IsOrderOrDrop, IsQueueing, IsReady, LeavesOff, LeavesPut, MayRelease, MovedAreShown}
 use Rattle.seen_facts.specs.Walk.Serving.{AreServed}
 
-module _ (p : InPass) (out : List RowKind) (t : Tables) (queue : Queue) (blame : List (StateId × ReqId)) (cause : Why) (ready : IsReady p out t queue blame cause) where
-  -- what a pass asks
-  pub pass_asks : IsPassing p out t × (MayPass p.event t.running t.kept.keep cause (now_of p.event out) × (AreBlamed (now_of p.event out) blame × FreesVisited p.event (now_of p.event out)))
-  pass_asks = (ready.passing, (record { open_ = ready.open_; loads = ready.loads; header = ready.header }, (ready.blamed, ready.frees)))
+-- what a pass asks
+pub pass_asks : (p : InPass) (out : List RowKind) (t : Tables) (queue : Queue) (blame : List (StateId × ReqId)) (cause : Why) → IsReady p out t queue blame cause → IsPassing p out t × (MayPass p.event t.running t.kept.keep cause (now_of p.event out) × (AreBlamed (now_of p.event out) blame × FreesVisited p.event (now_of p.event out)))
+pass_asks p out t queue blame cause ready =
+    (ready.passing, (record { open_ = ready.open_; loads = ready.loads; header = ready.header }, (ready.blamed, ready.frees)))
 
-  -- ---- what is so whether it went on or waits before its walk
+module _ {before : Bool} (p : InPass) (out : List RowKind) (t : Tables) (queue : Queue) (blame : List (StateId × ReqId)) (cause : Why) (ready : IsReadyIn before p out t queue blame cause) where
+  -- ---- what is so behind a pass, or a part of one
 
   module _ {sweeps : Bool} (new : List RowKind) (u : Tables) (noted : List (StateId × ReqId)) (tells : Why) (passing : IsPassingIn sweeps p new u) (left : LeavesPass (now_of p.event out) (now_of p.event new)) (only : HasPutOut p.event t.running cause tells out new) (kept : KeepsStore t u) where
     abbrev s : Seen
@@ -51,10 +52,10 @@ module _ (p : InPass) (out : List RowKind) (t : Tables) (queue : Queue) (blame :
     abbrev n : Seen
     n = now_of p.event new
 
-    put : HasOnly IsOrderOrDrop out new
+    pub put : HasOnly IsOrderOrDrop out new
     put = put_only p.event t.running cause tells out new only
 
-    leaves : LeavesPut s n
+    pub leaves : LeavesPut s n
     leaves = only_leaves p.event out new put
 
     -- ---- the queue
@@ -73,7 +74,7 @@ module _ (p : InPass) (out : List RowKind) (t : Tables) (queue : Queue) (blame :
 
     -- ---- what was made
 
-    theirs_then : LoadsMadeOwn n
+    pub theirs_then : LoadsMadeOwn n
     theirs_then req q made at load makes =
         let asked = was_asked wish s.requests n.requests leaves.wishes req q at in
         let both = ready.theirs req asked.0 made asked.1 (ap (λ (w : Wish). is_load w.what) asked.2 ∙ load) (ap (λ (w : Wish). w.made) asked.2 ∙ makes) in
@@ -96,7 +97,7 @@ module _ (p : InPass) (out : List RowKind) (t : Tables) (queue : Queue) (blame :
             let never : false ≡ true = sym unsettled ∙ sym same ∙ all in
             absurd cc
 
-    queueing_then : IsQueueing p new u queue
+    pub queueing_then : IsQueueing p new u queue
     queueing_then =
         record {
           waits = waiting_passed p.event out new left ready.queueing.waits;
@@ -114,7 +115,7 @@ module _ (p : InPass) (out : List RowKind) (t : Tables) (queue : Queue) (blame :
 
     -- ---- whom the traversal has moved
 
-    moved_then : MovedAreShown u.running n
+    pub moved_then : MovedAreShown u.running n
     moved_then =
         subst (λ (r : Option ReqId). MovedAreShown r n) (sym kept.running) (by_run t.running refl ready.calm ready.moved only)
       where
@@ -137,7 +138,7 @@ module _ (p : InPass) (out : List RowKind) (t : Tables) (queue : Queue) (blame :
 
     -- ---- who is late
 
-    late_then : LateKnown u.running n
+    pub late_then : LateKnown u.running n
     late_then =
         subst (λ (r : Option ReqId). LateKnown r n) (sym kept.running) (by_run t.running refl ready.calm ready.late only)
       where
@@ -148,31 +149,23 @@ module _ (p : InPass) (out : List RowKind) (t : Tables) (queue : Queue) (blame :
 
     -- ---- ongoing loads
 
-    live_then : LoadsStand n → LoadsLive n
+    pub live_then : LoadsStand n → LoadsLive n
     live_then stand =
         record {
           awake = stand_awake u.running p.loads p.hand n passing.going.tab stand;
           loading = left.loading ready.live.loading;
         }
 
-    -- ---- it went on
+    -- no document is stray, or an order is on its way
+    pub swept_then : SendsForStrays s n out new → AreSwept n ⊎ (orders_go n ≡ true)
+    swept_then sent =
+        swept_or p.event out new put (λ doc d found stray. sent (λ req nav its bare. ready.live.awake req nav its) doc d.state stray)
 
-    module _ (went : IsPassing p new u) (served : AreServed n) (told : ends_told n ≡ true) (strays : AreLeftStrays n noted) (passed : HasPassed p.event n) (calm : LeavesCalm t.running s n) (sent : SendsForStrays s n out new) where
-      calm_then : IsCalmAfter u.running n
-      calm_then =
-          subst (λ (r : Option ReqId). IsCalmAfter r n) (sym kept.running) (by_run t.running calm ready.calm)
-        where
-          by_run : (r : Option ReqId) → LeavesCalm r s n → IsCalmBefore r cause s → IsCalmAfter r n
-          by_run None leaves_ (inl yet) = leaves_.yet yet
-          by_run None leaves_ (inr around) = leaves_.around around.0 around.1.0
-          by_run (Some run) leaves_ before = (leaves_.unmoved run refl before.0, leaves_.rooted before.1)
+    -- ---- the pass is over
 
-      swept_then : AreSwept n ⊎ (orders_go n ≡ true)
-      swept_then =
-          swept_or p.event out new put (λ doc d found stray. sent (λ req nav its bare. ready.live.awake req nav its) doc d.state stray)
-
-      pub settled_in : HasSettled p new u queue noted cause
-      settled_in =
+    module _ (went : IsPassing p new u) (served : AreServed n) (told : ends_told n ≡ true) (strays : AreLeftStrays n noted) (passed : HasPassed p.event n) where
+      pub settled_in : IsCalmAfter u.running n → AreSwept n ⊎ (orders_go n ≡ true) → HasSettled p new u queue noted cause
+      settled_in calm swept =
           record {
             passing = went;
             empty = ready.empty;
@@ -182,8 +175,8 @@ module _ (p : InPass) (out : List RowKind) (t : Tables) (queue : Queue) (blame :
             strays = strays;
             served = served;
             told = told;
-            swept = swept_then;
-            calm = calm_then;
+            swept = swept;
+            calm = calm;
             late = late_then;
             moved = moved_then;
             live = live_then passed.walked.loads;
@@ -192,58 +185,18 @@ module _ (p : InPass) (out : List RowKind) (t : Tables) (queue : Queue) (blame :
           }
 
   pub settled : (new : List RowKind) (u : Tables) (noted : List (StateId × ReqId)) (tells : Why) → IsPassing p new u → AreServed (now_of p.event new) → ends_told (now_of p.event new) ≡ true → AreLeftStrays (now_of p.event new) noted → HasPassed p.event (now_of p.event new) → LeavesPass (now_of p.event out) (now_of p.event new) → HasPutOut p.event t.running cause tells out new → KeepsStore t u → LeavesCalm t.running (now_of p.event out) (now_of p.event new) → SendsForStrays (now_of p.event out) (now_of p.event new) out new → HasSettled p new u queue noted cause
-  settled new u noted tells passing served told strays passed left only kept calm sent = settled_in new u noted tells passing left only kept passing served told strays passed calm sent
-
-  -- ---- it waits
-
-  module _ (new : List RowKind) (u : Tables) (noted : List (StateId × ReqId)) (tells : Why) (paused : HasPaused p cause tells t out new u noted) where
-    abbrev m : Seen
-    m = now_of p.event new
-
-    no_run : u.running ≡ None
-    no_run = paused.kept.running ∙ paused.idle
-
-    aim_now : aim_of (now_of p.event out) ≡ (now_of p.event out).history.current
-    aim_now =
-        aim_is (now_of p.event out) t.running ready.passing.going.tab.asked t.goal ready.passing.work.goal ∙ ap (λ (r : Option ReqId). aim_in (now_of p.event out).history r t.goal) paused.idle
-
-    calm_waiting : IsCalmBefore None cause m
-    calm_waiting =
-        by_calm (subst (λ (r : Option ReqId). IsCalmBefore r cause (now_of p.event out)) paused.idle ready.calm)
-      where
-        by_calm : IsCalmBefore None cause (now_of p.event out) → IsCalmBefore None cause m
-        by_calm (inl yet) = inl (paused.left.calms.yet aim_now yet)
-        by_calm (inr around) =
-            inr (around.0, (paused.left.calms.around aim_now around.0 around.1.0, applied_after p.event cause tells out new paused.passing.work.goes (subst (λ (r : Option ReqId). HasPutOut p.event r cause tells out new) paused.idle paused.only) around.0 around.1.1))
-
-    pub waited : HasWaited p out new u queue noted cause
-    waited =
-        record {
-          idle = no_run;
-          ready = record {
-            passing = paused.passing;
-            empty = ready.empty;
-            header = paused.kept.keep ∙ ready.header;
-            open_ = paused.open_;
-            loads = subst (λ (r : Option ReqId). MayStand r m) (sym no_run) (stand_bare m paused.loads);
-            frees = paused.frees;
-            blamed = left_blamed m noted paused.rows_ (λ nav place doc d at wakes found. own_document u.running p.loads p.hand m paused.passing.going.tab nav place doc d at wakes found) paused.strays;
-            calm = subst (λ (r : Option ReqId). IsCalmBefore r cause m) (sym no_run) calm_waiting;
-            late = late_then new u noted tells paused.passing paused.left paused.only paused.kept;
-            moved = moved_then new u noted tells paused.passing paused.left paused.only paused.kept;
-            live = live_then new u noted tells paused.passing paused.left paused.only paused.kept paused.loads;
-            theirs = theirs_then new u noted tells paused.passing paused.left paused.only paused.kept;
-            queueing = queueing_then new u noted tells paused.passing paused.left paused.only paused.kept;
-          };
-          ends = paused.ends;
-          stand = paused.loads;
-          rests = paused.rests;
-        }
+  settled new u noted tells passing served told strays passed left only kept calm sent =
+      settled_in new u noted tells passing left only kept passing served told strays passed (subst (λ (r : Option ReqId). IsCalmAfter r (now_of p.event new)) (sym kept.running) (by_run t.running calm ready.calm)) (swept_then new u noted tells passing left only kept sent)
+    where
+      by_run : (r : Option ReqId) → LeavesCalm r (now_of p.event out) (now_of p.event new) → IsCalmBefore r cause (now_of p.event out) → IsCalmAfter r (now_of p.event new)
+      by_run None leaves_ (inl yet) = leaves_.yet yet
+      by_run None leaves_ (inr around) = leaves_.around around.0 around.1.0
+      by_run (Some run) leaves_ before_ = (leaves_.unmoved run refl before_.0, leaves_.rooted before_.1)
 
 -- ---- what was put out
 
 -- by a pass
-pub pass_ready_put : (p : InPass) (out : List RowKind) (t : Tables) (queue : Queue) (blame : List (StateId × ReqId)) (cause : Why) → IsReady p out t queue blame cause → (new : List RowKind) (tells : Why) → HasPutOut p.event t.running cause tells out new → LeavesPass (now_of p.event out) (now_of p.event new) → HasPut p.event out new
+pub pass_ready_put : {before : Bool} (p : InPass) (out : List RowKind) (t : Tables) (queue : Queue) (blame : List (StateId × ReqId)) (cause : Why) → IsReadyIn before p out t queue blame cause → (new : List RowKind) (tells : Why) → HasPutOut p.event t.running cause tells out new → LeavesPass (now_of p.event out) (now_of p.event new) → HasPut p.event out new
 pass_ready_put p out t queue blame cause ready new tells only left =
     pass_put p.event t.running cause tells out new only ready.passing.going.tab.asked ready.open_.may left.causes
 
@@ -261,20 +214,3 @@ put_passed p first out mid u passing one two =
 pub put_both : (p : InPass) (first out mid new : List RowKind) (u : Tables) → IsPassing p new u → HasPut p.event first out → HasPut p.event out mid → HasPut p.event mid new → HasPut p.event first new
 put_both p first out mid new u passing one two three =
     put_then p.event u.running first out new passing.work.goes passing.going.tab.asked one (put_then p.event u.running out mid new passing.work.goes passing.going.tab.asked two three)
-
--- where more was put out behind it, more was since the beginning
-pub grown_since : (e : InEvent) (first out new : List RowKind) → HasPut e first out → length out < length new → length first < length new
-grown_since e first out new put more =
-    let long : length out ≡ length first + length put.more = ap (λ (l : List RowKind). length l) put.is ∙ length-append first put.more in
-    omega (arith, long, more)
-
--- where nothing was put out before the pass whose walk waits, it waits since then
-pub waited_since : (p : InPass) (first was out : List RowKind) (t : Tables) (queue : Queue) (blame : List (StateId × ReqId)) (cause : Why) → was ≡ first → HasWaited p was out t queue blame cause → HasWaited p first out t queue blame cause
-waited_since p first was out t queue blame cause same waits =
-    subst (λ (l : List RowKind). HasWaited p l out t queue blame cause) same waits
-
--- where no traversal runs, and no document is stray, a pass discards nothing where a step was in its check
-pub pass_quiet : (e : InEvent) (first out new : List RowKind) (run : Option ReqId) (cause tells : Why) → run ≡ None → out ≡ first → HasPutOut e run cause tells out new → NoneStray (now_of e first) → DiscardsUnheld e first new
-pass_quiet e first out new run cause tells idle same put none =
-    subst (λ (l : List RowKind). DiscardsUnheld e l new) same
-    (put_quiet e cause tells out new (subst (λ (r : Option ReqId). HasPutOut e r cause tells out new) idle put) (subst (λ (l : List RowKind). NoneStray (now_of e l)) (sym same) none))

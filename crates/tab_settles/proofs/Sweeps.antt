@@ -74,6 +74,11 @@ module _ (e : InEvent) where
           inr (behind (λ job same. (let never : rows.Dropped req cause ≡ rows.Sent job = sym is ∙ same in cc)) sends)
       after_it _ is fine any = absurd fine
 
+  -- where one is on its way it stays so
+  pub go_on : (was out : List RowKind) → HasOnly IsOrderOrDrop was out → orders_go (now_of e was) ≡ true → orders_go (now_of e out) ≡ true
+  go_on was out only go =
+      ap (λ (l : List RowKind). orders_go (now_of e l)) only.is ∙ goes only.more was only.each (inl go)
+
   -- whether one is an order
   sends_or : (more : List RowKind) → SendsOne more ⊎ (SendsOne more → ⊥)
   sends_or [] = inr (λ never. absurd never.1)

@@ -1,3 +1,4 @@
 pub mod Offs
 pub mod Settling
+pub mod Held
 pub mod PassedOn

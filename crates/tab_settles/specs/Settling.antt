@@ -3,7 +3,6 @@
 use Rattle.log_model.specs.Places.{aim_of, all_stand}
 use Rattle.tab_releases.specs.Releasing.{InPass, IsPassing, LoadsMadeOwn, MayCause, Tables}
 pub use Rattle.tab_doors.specs.Working.{MayDiscardIn}
-pub use Rattle.tab_releases.specs.PassedOn.{EndsRun, NoneStray}
 pub use Rattle.tab_releases.specs.PassedOn.{FreesVisited, IsPassingIn}
 pub use Rattle.tab_releases.specs.Releasing.{HoldsParked, IsTurning, IsWaiting}
 use Rattle.tab_facts.specs.Calm.Calm.{AreRooted, IsCalm, IsCalmAround, IsCalmYet, UnmovedAreHere}
@@ -13,7 +12,7 @@ use Rattle.seen_facts.specs.Hang.Members.{Has}
 use Rattle.tab_facts.specs.Order.Orders.{IsOfCoord, AreOrders}
 use Rattle.tab_facts.specs.FrameTab.Asking.{NoneHeld}
 use Rattle.log_model.specs.ActsAtOnce.{ends_told}
-use Rattle.seen_facts.specs.LoadEnds.Standing.{LoadsStand, is_off}
+use Rattle.seen_facts.specs.LoadEnds.Standing.{is_off}
 use Rattle.log_model.specs.Causes.{nav_of_change, takes_report}
 use Rattle.log_model.specs.Equal.{has_req}
 use Rattle.log_model.specs.History.{has_nav}
@@ -221,14 +220,6 @@ pub record IsReadyIn (sweeps : Bool) (p : InPass) (out : List RowKind) (t : Tabl
 -- where none are
 abbrev pub IsReady : InPass → List RowKind → Tables → Queue → List (StateId × ReqId) → Why → Type 0
 IsReady p out t queue blame cause = IsReadyIn false p out t queue blame cause
-
--- no traversal runs, and the walk waits, since documents were discarded that may have been asked: the last row discards nothing, or no document is stray any more; ongoing loads stand, and where they stood before, a document was stray then, and none is any more
-pub record HasWaited (p : InPass) (was out : List RowKind) (t : Tables) (queue : Queue) (blame : List (StateId × ReqId)) (cause : Why) : Type 0 where
-  pub idle : t.running ≡ None
-  pub ready : IsReadyIn true p out t queue blame cause
-  pub ends : EndsRun out ⊎ NoneStray (now_of p.event out)
-  pub stand : LoadsStand (now_of p.event out)
-  pub rests : LoadsStand (now_of p.event was) → (NoneStray (now_of p.event was) → ⊥) × NoneStray (now_of p.event out)
 
 -- a pass has gone by: who is visited is served, who is awake was told, no document is stray or an order is on its way, and for each stray one that is left a request is noted; ongoing loads live on; orders may be for the cause
 pub record HasSettled (p : InPass) (out : List RowKind) (t : Tables) (queue : Queue) (blame : List (StateId × ReqId)) (cause : Why) : Type 0 where

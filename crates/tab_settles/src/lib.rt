@@ -1,10 +1,12 @@
 //! A tab with loads is brought to rest: one pass after the other, with a turn of the queue between two of them.
 #![tactic(auto)]
 
+mod holding;
 mod reasons;
 mod resting;
 mod turning;
 
+pub use holding::{clear_held, rest_held};
 pub use reasons::Reasons;
 pub use resting::settle;
 

@@ -4,7 +4,7 @@ ghost use Rattle.seen_laws.specs.InEvent.{log_of, now_of};
 ghost use Rattle.tab_releases.specs.Releasing.{InPass};
 ghost use Rattle.tab_releases.specs.PassedOn.{IsNoneDue};
 ghost use Rattle.slot_facts.specs.Slots.{AreSlots};
-ghost use Rattle.tab_settles.specs.Settling.{HasPut, HasSettled, HasTurned, IsOver, IsReady, MayDiscardIn, NoneRunsWhileHeld, turns_left};
+ghost use Rattle.tab_settles.specs.Settling.{HasPut, HasSettled, HasTurned, IsOver, IsReady, MayDiscardIn, turns_left};
 
 use crate::reasons::Reasons;
 use address::OutOfMemory;
@@ -86,7 +86,7 @@ fn begin(
     }
 }
 
-/// The traversal that runs ends, or, where none runs, the next step has its turn, where that is due; while a traversal in its check holds the queue (`holds`), no step has, nor a traversal that is to ask somebody before it begins. Answers whether one had a turn; else nothing is put out.
+/// The traversal that runs ends, or, where none runs, the next step has its turn, where that is due; not that of a traversal that is to ask somebody before it begins. Answers whether one had a turn; else nothing is put out.
 pub(crate) fn take_turn(
     alloc: Global,
     tables: &mut Tables,
@@ -95,30 +95,22 @@ pub(crate) fn take_turn(
     slots: &IndexMap<DocId, u8>,
     out: &mut Out,
     reasons: &mut Reasons,
-    holds: bool,
 ) -> Result<bool, OutOfMemory>
     ghost p: { InPass }
     requires at { HasSettled p out.old tables.old queue.old blame.old.entries reasons.old.cause }
-    requires alone { NoneRunsWhileHeld holds tables.old.running }
     requires slots { AreSlots (log_of p.event out.old) slots.now.entries }
-    requires free { holds ≡ false → MayDiscardIn false p.event }
+    requires free { MayDiscardIn false p.event }
     ensures ready { IfOk result (λ did. did ≡ true → IsReady p out.new tables.new queue.new blame.new.entries reasons.new.cause) }
     ensures fewer { IfOk result (λ did. did ≡ true → turns_left tables.new.running queue.new.waiting < turns_left tables.old.running queue.old.waiting) }
     ensures turned { IfOk result (λ did. did ≡ true → HasTurned p.event out.old out.new) }
     ensures still { IfOk result (λ did. did ≡ false → out.new ≡ out.old) }
-    ensures waits { IfOk result (λ did. holds ≡ true → did ≡ false) }
-    ensures stays { OnOk result (holds ≡ true → queue.new ≡ queue.old) }
     ensures rested { IfOk result (λ did. did ≡ false → HasSettled p out.new tables.new queue.new blame.new.entries reasons.new.cause) }
-    ensures due { holds ≡ false → IfOk result (λ did. did ≡ false → IsOver p.event out.new tables.new.running queue.new.waiting) }
-    ensures alone { NoneRunsWhileHeld holds tables.new.running }
+    ensures due { IfOk result (λ did. did ≡ false → IsOver p.event out.new tables.new.running queue.new.waiting) }
     ensures put { OnOk result (HasPut p.event out.old out.new) }
     ensures handled { reasons.new.handled ≡ reasons.old.handled }
 {
     if tables.running.is_some() {
         return finish(alloc, tables, queue, blame, out, reasons);
-    }
-    if holds {
-        return Ok(false);
     }
     begin(alloc, tables, queue, blame, slots, out, reasons)
 }

@@ -61,10 +61,10 @@ keeps_each e was (row ∷ more) h goes its = (
   keeps_each e (was ++ row ∷ []) more (on_row h (row_of e row)) (rest_goes e was more row goes) (λ other there. its other (inr there)),
 )
 
--- what was known once the own row was logged is known at the event's end
-pub known_end : (e : InEvent) (out : List RowKind) → EachGoes e [] out → ((row : RowKind) → Has out row → IsOfCoord row) → EachPass (start_of e) (rows_of e out) [] → AskingKnown (log_of e []) → AskingKnown (log_of e out)
-known_end e out goes its passes known =
-    known_rows (first_of e) (map (row_of e) out) [] (behind_pass (own_of e) (map (row_of e) e.before) (map (row_of e) out) [] passes.1) (keeps_each e [] out (first_of e) goes its) known
+-- what was known once the own row was logged is known behind rows that pass
+pub known_end : (e : InEvent) (out : List RowKind) (later : List LogRow) → EachGoes e [] out → ((row : RowKind) → Has out row → IsOfCoord row) → EachPass (start_of e) (rows_of e out) later → AskingKnown (log_of e []) → AskingKnown (log_of e out)
+known_end e out later goes its passes known =
+    known_rows (first_of e) (map (row_of e) out) later (behind_pass (own_of e) (map (row_of e) e.before) (map (row_of e) out) later passes.1) (keeps_each e [] out (first_of e) goes its) known
 
 -- ---- the table
 

@@ -185,9 +185,9 @@ module _ (p : InPass) (out : List RowKind) (t : Tables) (queue : Queue) (blame :
       let pass = passes taken in
       record {
         checks = at.passing.work.checks;
-        shows = event_under p.event out pass.1 of_coord (shows pass);
+        shows = event_under p.event out [] pass.1 of_coord (shows pass);
         duly = at.passing.duly;
-        known = known_end p.event out at.passing.work.goes of_coord pass (known pass);
+        known = known_end p.event out [] at.passing.work.goes of_coord pass (known pass);
       }
 
   -- navigables are the same in both

@@ -466,19 +466,24 @@ coord_under s event actor (rows.Dropped req cause) of_coord p now ordered are =
     quietly_under s event actor (rows.Dropped req cause) tt (λ job is. cc) (same_documents s.documents) refl are
 coord_under s event actor _ never p now ordered are = absurd never
 
-rows_under : (e : InEvent) (h : Here) (out : List RowKind) → EachPass h (map (row_of e) out) [] → ((kind : RowKind) → Has out kind → IsOfCoord kind) → AreShownUnder h.now → AreShownUnder (on_rows h (map (row_of e) out)).now
-rows_under e h [] passes of_coord are = are
-rows_under e h (kind ∷ out) passes of_coord are =
-    rows_under e (on_row h (row_of e kind)) out passes.1 (λ k has. of_coord k (inr has)) (coord_under h.now e.event e.actor kind (of_coord kind (inl refl)) (point_at h (map (row_of e) out ++ [])) refl passes.0.ordered are)
+rows_under : (e : InEvent) (h : Here) (out : List RowKind) (later : List LogRow) → EachPass h (map (row_of e) out) later → ((kind : RowKind) → Has out kind → IsOfCoord kind) → AreShownUnder h.now → AreShownUnder (on_rows h (map (row_of e) out)).now
+rows_under e h [] later passes of_coord are = are
+rows_under e h (kind ∷ out) later passes of_coord are =
+    rows_under e (on_row h (row_of e kind)) out later passes.1 (λ k has. of_coord k (inr has)) (coord_under h.now e.event e.actor kind (of_coord kind (inl refl)) (point_at h (map (row_of e) out ++ later)) refl passes.0.ordered are)
+
+-- one by which the user is asked
+pub prompted_under : (s : Seen) (event : ℕ) (actor : Actor) (req : ReqId) (doc : DocId) → AreShownUnder s → AreShownUnder (next s event actor (rows.Prompted req doc))
+prompted_under s event actor req doc =
+    quietly_under s event actor (rows.Prompted req doc) tt (λ job is. cc) (same_documents s.documents) refl
 
 -- rows behind others pass where all of them do
 pass_behind : (h : Here) (rows_ more later : List LogRow) → EachPass h (rows_ ++ more) later → EachPass (on_rows h rows_) more later
 pass_behind h [] more later passes = passes
 pass_behind h (row ∷ rows_) more later passes = pass_behind (on_row h row) rows_ more later passes.1
 
--- so it is as the event ends, where it was at the cut
-pub event_under : (e : InEvent) (out : List RowKind) → EachPass (own_of e) (later_of e out) [] → ((kind : RowKind) → Has out kind → IsOfCoord kind) → AreShownUnder (log_of e []) → AreShownUnder (log_of e out)
-event_under e out passes of_coord are = rows_under e (first_of e) out (pass_behind (own_of e) (map (row_of e) e.before) (map (row_of e) out) [] passes) of_coord are
+-- so it is behind rows that pass, where it was at the cut
+pub event_under : (e : InEvent) (out : List RowKind) (later : List LogRow) → EachPass (own_of e) (later_of e out) later → ((kind : RowKind) → Has out kind → IsOfCoord kind) → AreShownUnder (log_of e []) → AreShownUnder (log_of e out)
+event_under e out later passes of_coord are = rows_under e (first_of e) out later (pass_behind (own_of e) (map (row_of e) e.before) (map (row_of e) out) later passes) of_coord are
 
 -- as the event's own row is logged, where it tells of no death
 pub own_under : (e : InEvent) → e.before ≡ [] → leads e.own ≡ true → ((proc : ProcId) → e.own ≡ rows.Delivered proc → NoDeath (slice_get (desk_of e.start proc).reports 0)) → AreShownUnder e.start → AreShownUnder (log_of e [])

@@ -23,7 +23,7 @@ abbrev pub with_checking : InEvent → (ReqId → Bool) → InEvent
 with_checking e checking = record e { checking = checking }
 
 -- it is the event, cut behind these rows
-goes_is : (e : InEvent) (first : List RowKind) (at : InEvent) → GoesOn e first at → at ≡ wanting (cut e first at.checking at.due) at.wants
+pub goes_is : (e : InEvent) (first : List RowKind) (at : InEvent) → GoesOn e first at → at ≡ wanting (cut e first at.checking at.due) at.wants
 goes_is e first at goes =
     ap (λ (h : Header). record at { header = h }) goes.header
     ∙ ap (λ (s : Seen). record at { header = e.header; start = s }) goes.start

@@ -1,11 +1,10 @@
-use Rattle.tab_one_pass.proofs.Gives.{cleared_frees, cleared_left, cleared_loaded, cleared_loads, cleared_only, cleared_open, cleared_rows, cleared_sent, cleared_strays, destroy_asks}
+use Rattle.tab_one_pass.proofs.Clears.{cleared_ends, cleared_frees, cleared_left, cleared_loaded, cleared_loads, cleared_only, cleared_open, cleared_rows, cleared_sent, cleared_strays, destroy_asks}
 use Rattle.tab_one_pass.proofs.Lefts.{strays_are_left}
-use Rattle.tab_passes.proofs.Sweeps.{swept_on}
 use Rattle.tab_one_pass.proofs.passing.clear_out.Goals as goal
 
 pub sweep-requires : goal.sweep-requires
 sweep-requires g c = (
-  swept_on g.p c.args.out.now c.args.tables.now c.requires.0,
+  c.requires.0,
   (
     c.requires.1.1.1,
     strays_are_left g.p c.args.out.now c.args.tables.now c.requires.0 c.args.cause c.requires.1.0 c.args.blame.now.entries c.requires.1.1.1,
@@ -51,3 +50,7 @@ returns-clause-loaded g c =
 pub returns-clause-sent : goal.returns-clause-sent
 returns-clause-sent g c =
     cleared_sent g.p c.args.out.now c.args.tables.now c.requires.0 c.args.cause c.requires.1.0 c.requires.1.1.0 _ _ _ c.in_ok-sweep.ensures.passing c.in_ok-sweep.ensures.swept c.in_ok-sweep.ensures.only c.in_ok-sweep.ensures.left c.in_ok-sweep.ensures.kept _ _ c.in_ok-destroy_loads.ensures.gone c.in_ok-destroy_loads.ensures.left c.in_ok-destroy_loads.ensures.kept c.in_ok-destroy_loads.ensures.only
+
+pub returns-clause-ends : goal.returns-clause-ends
+returns-clause-ends g c =
+    cleared_ends g.p c.args.out.now c.args.tables.now c.requires.0 c.args.cause c.requires.1.0 c.requires.1.1.0 _ _ _ c.in_ok-sweep.ensures.passing c.in_ok-sweep.ensures.swept c.in_ok-sweep.ensures.only c.in_ok-sweep.ensures.left c.in_ok-sweep.ensures.kept _ _ c.in_ok-destroy_loads.ensures.gone c.in_ok-destroy_loads.ensures.left c.in_ok-destroy_loads.ensures.kept c.in_ok-destroy_loads.ensures.only

@@ -6,8 +6,5 @@ ghost-give_way g a = g.p
 abbrev pub ghost-clear_out : goal.ghost-clear_out
 ghost-clear_out g a = g.p
 
-abbrev pub ghost-serve_all : goal.ghost-serve_all
-ghost-serve_all g a = g.p
-
-abbrev pub ghost-tell_all : goal.ghost-tell_all
-ghost-tell_all g a = g.p
+abbrev pub ghost-serve_and_tell : goal.ghost-serve_and_tell
+ghost-serve_and_tell g a = g.p

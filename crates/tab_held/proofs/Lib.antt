@@ -1,0 +1,5 @@
+pub mod Over
+pub mod Known
+pub mod Cut
+pub mod Ends
+pub mod Goes
