@@ -29,7 +29,7 @@ use Rattle.tab_prompts.proofs.Settled.{IsNotedFor, cut_calm, cut_stands, prompts
 use Rattle.tab_prompts.proofs.Since.{finished_since, no_question, rows_keep}
 use Rattle.tab_prompts.proofs.Tables.{GoesAt, goes_told}
 use Rattle.tab_prompts.proofs.Works.{prompts_are, prompts_keep}
-use Rattle.tab_prompts.specs.Asking.{AreApart, BeginsAsked, WasOpen, are_unheard}
+use Rattle.tab_prompts.specs.Asking.{AreApart, BeginsAsked, BeginsMost, WasOpen, are_unheard}
 use Rattle.tab_prompts.specs.Prompts.{is_settled_in, is_waiting}
 use Rattle.unload_check.specs.Checks.{OpenCheck, check_of}
 
@@ -135,16 +135,28 @@ module _ {sweeps : Bool} (move : Option Move) (e : InEvent) (out : List RowKind)
   finished_last =
       prompts_keep (λ s. s.just_finished ≡ None) e (λ s req doc is. refl) asking out (prompts_are told_then waited) (finished_since e out work.goes work.off begins.finished)
 
-  -- so the event goes on as one that began
-  pub begins_again : ((req : ReqId) (q : Asked) → request_of (log_of cut_then []) req ≡ Some q → is_traversal q.what ≡ true → is_waiting t.checks req ≡ true → Has waited req) → ((req : ReqId) (q : Asked) → request_of (log_of cut_then []) req ≡ Some q → is_traversal q.what ≡ true → Has waited req → is_settled_in told_then req ≡ true → IsNotedFor told_then req) → BeginsAsked cut_then told_then
-  begins_again all noted =
+  -- so the event goes on as one that began, whoever has passed
+  pub begins_most : BeginsMost cut_then told_then
+  begins_most =
       let stands = cut_stands move e out t work begins waited apart waits in
       record {
         asked = stands.asked;
-        calm = cut_calm move e out t work begins waited apart waits all noted;
         notes = stands.notes;
         unanswered = at_cut NoneAnsweredEarly since.unanswered;
         opens = at_cut (λ s. (req : ReqId) (q : Asked) → request_of s req ≡ Some q → all_asked s q ≡ false → WasOpen e.start req ⊎ (are_unheard q.asks ≡ true)) opens;
         there = at_cut (λ s. (req : ReqId) → request_of s req ≡ None → check_of req told_then ≡ None) nobody;
         finished = at_cut (λ s. s.just_finished ≡ None) finished_last;
+      }
+
+  -- and in full, where no traversal goes on
+  pub begins_again : ((req : ReqId) (q : Asked) → request_of (log_of cut_then []) req ≡ Some q → is_traversal q.what ≡ true → is_waiting t.checks req ≡ true → Has waited req) → ((req : ReqId) (q : Asked) → request_of (log_of cut_then []) req ≡ Some q → is_traversal q.what ≡ true → Has waited req → is_settled_in told_then req ≡ true → IsNotedFor told_then req) → BeginsAsked cut_then told_then
+  begins_again all noted =
+      record {
+        asked = begins_most.asked;
+        calm = cut_calm move e out t work begins waited apart waits all noted;
+        notes = begins_most.notes;
+        unanswered = begins_most.unanswered;
+        opens = begins_most.opens;
+        there = begins_most.there;
+        finished = begins_most.finished;
       }

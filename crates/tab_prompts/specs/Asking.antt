@@ -41,6 +41,15 @@ pub record BeginsAsked (e : InEvent) (checks : List (ReqId × OpenCheck)) : Type
   pub there : (req : ReqId) → request_of (log_of e []) req ≡ None → check_of req checks ≡ None
   pub finished : (log_of e []).just_finished ≡ None
 
+-- all of it but that no traversal in its check had passed
+pub record BeginsMost (e : InEvent) (checks : List (ReqId × OpenCheck)) : Type 0 where
+  pub asked : AreAskedDuly e.checking e.start (log_of e []) (record { checks = checks; run = [] })
+  pub notes : NotesWanted (log_of e []) checks
+  pub unanswered : NoneAnsweredEarly (log_of e [])
+  pub opens : (req : ReqId) (q : Asked) → request_of (log_of e []) req ≡ Some q → all_asked (log_of e []) q ≡ false → WasOpen e.start req ⊎ (are_unheard q.asks ≡ true)
+  pub there : (req : ReqId) → request_of (log_of e []) req ≡ None → check_of req checks ≡ None
+  pub finished : (log_of e []).just_finished ≡ None
+
 -- ---- the user is to be asked
 
 -- about the request, for the sake of the document that the table notes: it is in its check and under way, and the last of its questions that were open as the event began was settled since
