@@ -11,6 +11,7 @@ pub mod Questions
 pub mod AtHand
 pub mod TiedLeft
 pub mod Quiet
+pub mod Leaves
 pub mod Dropped
 pub mod Told
 pub mod Lasts

@@ -84,20 +84,20 @@ module _ (header : Header) (s : Seen) (event : ℕ) (checking : ReqId → Bool) 
   none_is None is = refl
   none_is (Some x) is = absurd cc
 
-  open_ : q.ending ≡ None
+  pub open_ : q.ending ≡ None
   open_ = none_is q.ending first.1
 
   unanswered : q.answered ≡ None
   unanswered = none_is q.answered (and_parts (is_some q.prompted) (is_none q.answered) first.0).1
 
-  numbered : q.nr ≡ req
+  pub numbered : q.nr ≡ req
   numbered = asks.has.numbered req q found
 
-  settled : (is_asked q.asks ≡ true) × (all_asked s q ≡ true)
+  pub settled : (is_asked q.asks ≡ true) × (all_asked s q ≡ true)
   settled = and_parts (is_asked q.asks) (all_asked s q) (asks.has.prompted req q found up)
 
   -- who has questions has begun
-  began : q.is_started ≡ true
+  pub began : q.is_started ≡ true
   began = by_start q.is_started refl
     where
       by_start : (b : Bool) → q.is_started ≡ b → b ≡ true
@@ -107,7 +107,7 @@ module _ (header : Header) (s : Seen) (event : ℕ) (checking : ReqId → Bool) 
           let no : false ≡ true = ap is_asked (sym none) ∙ settled.0 in
           cc
 
-  in_check : is_checking s q ≡ true
+  pub in_check : is_checking s q ≡ true
   in_check = rw (checked, began, open_, settled.1, unanswered) (by_prompt q.prompted up)
     where
       by_prompt : (o : Option DocId) → is_some o ≡ true → not (is_none o || false) ≡ true
@@ -150,20 +150,20 @@ module _ (header : Header) (s : Seen) (event : ℕ) (checking : ReqId → Bool) 
   began_duly : AreAskedDuly checking s s (record { checks = es; run = [] })
   began_duly = between_duly checking s es asks.has asks.open_ asks.within
 
-  abbrev answered_table : List (ReqId × OpenCheck)
+  abbrev pub answered_table : List (ReqId × OpenCheck)
   answered_table = changed req (table.after_user true) es
 
-  said_duly : AreAskedDuly checking s said (record { checks = answered_table; run = [] })
+  pub said_duly : AreAskedDuly checking s said (record { checks = answered_table; run = [] })
   said_duly =
       answered_duly checking s event req true es began_duly q found up numbered prompted.check prompted.doc prompted.has prompted.prompts
 
-  abbrev one : Asked
+  abbrev pub one : Asked
   one = record q { answered = Some true }
 
-  one_found : request_of said req ≡ Some one
+  pub one_found : request_of said req ≡ Some one
   one_found = found_one checking s event req true es began_duly q found up numbered
 
-  unnoted : todo_of (after_all_deaths [] answered_table) req ≡ None
+  pub unnoted : todo_of (after_all_deaths [] answered_table) req ≡ None
   unnoted =
       ap (λ (l : List (ReqId × OpenCheck)). todo_of l req) (told_none answered_table)
       ∙ stayed_unnoted checking s event req true es began_duly q found up numbered prompted.check prompted.doc prompted.has prompted.prompts refl
@@ -174,10 +174,10 @@ module _ (header : Header) (s : Seen) (event : ℕ) (checking : ReqId → Bool) 
   dropped = after said (row_of e (rows.Dropped req drops.Stay))
 
   -- the check is gone
-  table_is : ended req (after_all_deaths [] answered_table) ≡ ended req es
+  pub table_is : ended req (after_all_deaths [] answered_table) ≡ ended req es
   table_is = ap (ended req) (told_none answered_table) ∙ ended_changed req (table.after_user true) es
 
-  duly : AreAskedDuly checking s dropped (record { checks = ended req es; run = [] })
+  pub duly : AreAskedDuly checking s dropped (record { checks = ended req es; run = [] })
   duly =
       subst (λ (l : List (ReqId × OpenCheck)). AreAskedDuly checking s dropped (record { checks = l; run = [] })) table_is
       (withdrawn_duly checking s said (record { checks = answered_table; run = [] }) said_duly req (λ x at un. unnoted) e drops.Stay)
@@ -207,12 +207,12 @@ module _ (header : Header) (s : Seen) (event : ℕ) (checking : ReqId → Bool) 
     stays_pass =
         tied_pass e out (ended req es) duly tied (subst (λ (l : List (ReqId × OpenCheck)). PassIf Free e (todo_of l) out) table_is (stayed_pass e refl req q refl refl found numbered awaits open_ (was_wanted s known.wanted req q found awaits) unparked Free (record { checks = answered_table; run = [] }) said_duly one_found unnoted)) refl refl (λ moves. absurd cc)
 
-    calm : NonePasses checking dropped
-    calm r x at runs goes on =
+    pub stays_calm : NonePasses checking dropped
+    stays_calm r x at runs goes on =
         silent_waits checking (λ n. false) said (row_of e (rows.Dropped req drops.Stay)) tt tt tt (none_waits checking said (stayed_none checking s event req prompted.on q found up asks.calm) (λ n. false)) r x at runs goes on refl
 
     pub stays_known : AskingKnown dropped
     stays_known = known_rows (start_of e) (rows_of e out) [] stays_pass (tt, (tt, tt)) known
 
     pub stays_asks : ChecksStand checking dropped (ended req es)
-    stays_asks = tied_stand checking s dropped (ended req es) duly tied calm
+    stays_asks = tied_stand checking s dropped (ended req es) duly tied stays_calm

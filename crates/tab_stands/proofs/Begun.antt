@@ -5,6 +5,8 @@ use Rattle.tab_stands.proofs.Orders.{keeps_coming, makes_first, sound_first}
 use Rattle.load_doors.specs.Tied.{AreTied}
 use Rattle.move_queue.specs.Queue.{Queue}
 use Rattle.row_facts.proofs.Owed.Ends.{loose_first, loose_owed}
+use Rattle.leave_facts.proofs.Carried.{AreLeftDuly}
+use Rattle.row_facts.specs.Owed.Owed.{IsLoose}
 use Rattle.row_facts.specs.RestRows.Moving.{AllRest}
 use Rattle.seen_laws.specs.InEvent.{InEvent, log_of, now_of}
 use Rattle.seen_laws.specs.Sending.{leads}
@@ -13,14 +15,15 @@ use Rattle.tab_doors.specs.Working.{HasGoal, IsAtWork, IsWorker}
 use Rattle.tab_doors.specs.declared.tables.Tables.{Tables}
 use Rattle.tab_settles.proofs.PassedOn.{unheld_first}
 use Rattle.tab_facts.specs.TabEvents.Between.{IsBetweenChecks}
-use Rattle.tab_settles.specs.PassedOn.{InPass, IsGoing, IsPassing}
+use Rattle.tab_settles.specs.PassedOn.{AreUnheld, InPass, IsGoing, IsPassing}
 use Rattle.tab_ids.specs.declared.DocId.{DocId}
 use Rattle.tab_ids.specs.declared.ReqId.{ReqId}
 use Rattle.tab_ids.specs.declared.StateId.{StateId}
-use Rattle.tab_settles.specs.Settling.{IsQueueing}
+use Rattle.tab_settles.specs.Settling.{IsQueueing, MakesServe, OrdersAreSound}
 use Rattle.tab_stands.proofs.Coming.{IsComing, stand_then, taking_then}
 use Rattle.tab_stands.proofs.LateEvents.{late_first}
 use Rattle.tab_stands.proofs.MovedEvents.{moved_coming}
+use Rattle.tab_stands.specs.Offs.{AreShownUnder}
 use Rattle.tab_stands.specs.Standing.{HasBegun, HasLogged, Lasts, seen_start}
 
 -- a coordinator is at work once the own row was logged, whose tables stand for what the log would have come to
@@ -49,32 +52,49 @@ work_first e t at own worker tied =
       lawful = at.lawful;
     }
 
-module _ (p : InPass) (t : Tables) (queue : Queue) (blame : List (StateId × ReqId)) {loads : List ReqId} {waits : Bool} (between : IsBetweenChecks t.kept.keep t.running loads waits (seen_start p.event)) (lasts : Lasts t.running (seen_start p.event)) (goal : HasGoal (seen_start p.event).requests t.running t.goal) (header : t.kept.keep ≡ p.event.header.keep) (logged : HasLogged p.event t.checks) (own : leads p.event.own ≡ true) (worker : IsWorker p.event.actor) (tied : AreTied (now_of p.event []) t) (going : IsGoing t.running p.loads p.hand (now_of p.event [])) (rests : AllRest (now_of p.event [])) (comes : IsComing blame (seen_start p.event) (now_of p.event [])) where
-  passing : IsPassing p [] t
-  passing =
+-- whatever row was its own and whether it was cut behind others: where a coordinator is at work and nothing was put out since, all goes on
+module _ (p : InPass) (t : Tables) (queue : Queue) (blame : List (StateId × ReqId)) {loads : List ReqId} {waits : Bool} (between : IsBetweenChecks t.kept.keep t.running loads waits (seen_start p.event)) (lasts : Lasts t.running (seen_start p.event)) (goal : HasGoal (seen_start p.event).requests t.running t.goal) (header : t.kept.keep ≡ p.event.header.keep) (work : IsAtWork p.event [] t) (loose : IsLoose p.event []) (duly : AreLeftDuly (log_of p.event [])) (going : IsGoing t.running p.loads p.hand (now_of p.event [])) (rests : AllRest (now_of p.event [])) (comes : IsComing blame (seen_start p.event) (now_of p.event [])) where
+  passing_there : IsPassing p [] t
+  passing_there =
       record {
-        work = work_first p.event t logged own worker tied;
+        work = work;
         going = going;
-        owed = loose_owed p.event [] (loose_first p.event logged.logged.undue);
-        loose = λ all. loose_first p.event logged.logged.undue;
+        owed = loose_owed p.event [] loose;
+        loose = λ all. loose;
         rests = rests;
-        duly = logged.lasts.duly;
+        duly = duly;
         few = subst (λ (k : ℕ). k ≤ t.kept.keep) (sym (ap (λ (l : List DocId). length l) comes.kept)) between.few;
       }
 
-  pub begun : IsQueueing p [] t queue → HasBegun p t queue blame
-  begun queueing =
+  pub begun_there : AreUnheld p.event (now_of p.event []) → AreShownUnder (log_of p.event []) → MakesServe (now_of p.event []) → OrdersAreSound (now_of p.event []) → IsQueueing p [] t queue → HasBegun p t queue blame
+  begun_there unheld shows makes sound queueing =
       record {
-        passing = passing;
+        passing = passing_there;
         header = header;
-        taking = taking_then (seen_start p.event) t.running t.kept.keep t.goal blame (now_of p.event []) between lasts goal p.loads p.hand going.tab tied.goal comes p.event refl (unheld_first p t logged.logged.uncut passing);
-        loose = loose_first p.event logged.logged.undue;
-        stand = stand_then (seen_start p.event) t.running t.kept.keep t.goal blame (now_of p.event []) between lasts goal p.loads p.hand going.tab tied.goal comes;
+        taking = taking_then (seen_start p.event) t.running t.kept.keep t.goal blame (now_of p.event []) between lasts goal p.loads p.hand going.tab work.goal comes p.event refl unheld;
+        loose = loose;
+        stand = stand_then (seen_start p.event) t.running t.kept.keep t.goal blame (now_of p.event []) between lasts goal p.loads p.hand going.tab work.goal comes;
         moved = moved_coming blame (seen_start p.event) (now_of p.event []) comes t.running between.tab.asked lasts.moved;
         theirs = comes.theirs;
         late = late_first blame (seen_start p.event) (now_of p.event []) comes t.running going.tab.standing lasts.off;
-        shows = logged.lasts.shows;
-        makes = makes_first p.event logged.logged.read own comes.serves lasts.makes;
-        sound = sound_first p.event logged.logged.read own (keeps_coming blame (seen_start p.event) (now_of p.event []) comes) lasts.sound;
+        shows = shows;
+        makes = makes;
+        sound = sound;
         queueing = queueing;
       }
+
+-- its own row was logged, and nothing was put out
+module _ (p : InPass) (t : Tables) (queue : Queue) (blame : List (StateId × ReqId)) {loads : List ReqId} {waits : Bool} (between : IsBetweenChecks t.kept.keep t.running loads waits (seen_start p.event)) (lasts : Lasts t.running (seen_start p.event)) (goal : HasGoal (seen_start p.event).requests t.running t.goal) (header : t.kept.keep ≡ p.event.header.keep) (logged : HasLogged p.event t.checks) (own : leads p.event.own ≡ true) (worker : IsWorker p.event.actor) (tied : AreTied (now_of p.event []) t) (going : IsGoing t.running p.loads p.hand (now_of p.event [])) (rests : AllRest (now_of p.event [])) (comes : IsComing blame (seen_start p.event) (now_of p.event [])) where
+  loose_here : IsLoose p.event []
+  loose_here = loose_first p.event logged.logged.undue
+
+  work_here : IsAtWork p.event [] t
+  work_here = work_first p.event t logged own worker tied
+
+  passing : IsPassing p [] t
+  passing =
+      passing_there p t queue blame between lasts goal header work_here loose_here logged.lasts.duly going rests comes
+
+  pub begun : IsQueueing p [] t queue → HasBegun p t queue blame
+  begun =
+      begun_there p t queue blame between lasts goal header work_here loose_here logged.lasts.duly going rests comes (unheld_first p t logged.logged.uncut passing) logged.lasts.shows (makes_first p.event logged.logged.read own comes.serves lasts.makes) (sound_first p.event logged.logged.read own (keeps_coming blame (seen_start p.event) (now_of p.event []) comes) lasts.sound)
