@@ -4,8 +4,10 @@ use Rattle.load_doors.specs.Logged.{IsLogged}
 use Rattle.tab_acts.proofs.Owns as owns
 use Rattle.tab_stands.proofs.Logged.{own_read}
 use Rattle.tab_stands.specs.Standing.{LastsInLog, StartsUnasked, seen_start}
-use Rattle.coord.proofs.Asides.{evicted_aside, seen_stands, start_asks, start_lasts}
+use Rattle.coord.proofs.Asides.{evicted_aside, off, seen_stands, start_asks, start_lasts}
 use Rattle.tab_doors.proofs.Uncut.{uncut_now}
+use Rattle.tab_doors.proofs.Works.{none_steps}
+use Rattle.tab_doors.specs.Working.{MayDiscardIn}
 use Rattle.coord.proofs.Fines.{IsFine, fine_discard, fine_moves, makes_over, sound_over}
 use Rattle.coord.proofs.Slots.{own_slots}
 use Rattle.coord.specs.Evicting.{longest_in}
@@ -20,7 +22,7 @@ use Rattle.page_cache.specs.Kept.{oldest_of}
 use Rattle.seen_laws.specs.InEvent.{InEvent, log_of, now_of, later_of}
 use Rattle.seen_laws.specs.Sending.{leads}
 use Rattle.slot_facts.specs.Slots.{AreSlots}
-use Rattle.std.proofs.Common.{List, [], ap, subst, sym, true, ℕ, ◌++◌, ◌∙◌, ◌≡◌}
+use Rattle.std.proofs.Common.{List, [], ap, false, subst, sym, true, ℕ, ◌++◌, ◌∙◌, ◌≡◌}
 use Rattle.std.specs.Prelude.{slice_get}
 use Rattle.tab_doors.specs.declared.tables.Tables.{Tables}
 use Rattle.tab_evicts.specs.Evicting.{IsDiscardFor}
@@ -73,8 +75,12 @@ module _ (e : InEvent) (state : StateId) (c : Coordinator) (open_ : IsOpenTo e c
   pub logged : IsLogged e c.tables.checks
   logged = owns.evicted_logged e c.tables.checks open_.in_.uncut open_.in_.undue (start_lasts e c open_.in_) (start_asks e c open_.in_) state asks.own
 
+  -- no step is in its check
+  pub free : MayDiscardIn false e
+  free = none_steps e.checking (off e c open_.in_) (log_of e [])
+
   comes : IsComing c.blame.entries (seen_start e) (now_of e [])
-  comes = comes_own e state asks c.tables c.queue c.blame.entries stands aside logged lasts_log
+  comes = comes_own e state asks c.tables c.queue c.blame.entries stands logged lasts_log
 
   module _ (out : List RowKind) (came : HasEvicted e state out) (u : Tables) (ready : IsReady (pass_of e []) out u c.queue c.blame.entries whys.Evict) where
     discards : (row : RowKind) → IsDiscardFor whys.Evict row → IsFine (now_of e out) whys.Evict row

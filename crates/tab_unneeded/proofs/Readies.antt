@@ -1,12 +1,14 @@
 -- A document was made and discarded at once: a pass may follow.
-use Rattle.tab_doors.specs.Working.{MayDiscardIn}
+use Rattle.row_facts.proofs.Owed.Ends.{loose_first, loose_more}
+use Rattle.row_facts.proofs.Owed.Rows.{sent_lasts}
+use Rattle.row_facts.specs.Owed.Owed.{IsLoose}
 use Rattle.load_doors.proofs.Starts.{requests_start}
 use Rattle.log_model.specs.Queue.{is_traverse}
 use Rattle.seen_facts.specs.Asked.Asking.{ArePlain}
 use Rattle.seen_facts.specs.Coord.Leading.{held_back}
 use Rattle.tab_facts.specs.Frame.Lasting.{wish}
 use Rattle.row_facts.specs.FrameRows.Lawful.{has_traversed}
-use Rattle.tab_facts.specs.Calm.Calm.{HasUsable}
+use Rattle.tab_facts.specs.Calm.Calm.{CalmUnless, HasUsable, IsCalmYet}
 use Rattle.seen_facts.specs.Load.Loading.{look}
 use Rattle.log_model.specs.ActsAtOnce.{is_ready_load}
 use Rattle.log_model.specs.Causes.{takes_report}
@@ -21,27 +23,32 @@ use Rattle.log_model.specs.declared.row_kind.RowKind.{RowKind}
 use Rattle.move_queue.specs.Queue.{Queue}
 use Rattle.seen_laws.proofs.Sendings.{both}
 use Rattle.seen_laws.specs.InEvent.{InEvent, now_of, row_of}
-use Rattle.std.proofs.Common.{Bool, List, None, Option, Some, [], ap, false, inl, length, refl, subst, sym, true, ℕ, ◌∙◌, ◌∷◌, ◌≡◌, map, ◌++◌}
+use Rattle.std.proofs.Common.{Bool, List, None, Option, Some, [], ap, false, inl, length, refl, subst, sym, true, ℕ, ◌∙◌, ◌∷◌, ◌≡◌, map, ◌++◌, ◌≤◌}
 use Rattle.std.proofs.lemmas.Bool.{and_parts}
 use Rattle.std.specs.List.{list_any}
 use Rattle.std.specs.Prelude.{option_map}
 use Rattle.tab_doors.specs.Orders.{order_to}
-use Rattle.tab_doors.specs.Working.{KeepsRun, KeepsStore}
+use Rattle.tab_doors.specs.Working.{KeepsRun, KeepsStore, MayDiscardIn}
 use Rattle.tab_doors.specs.declared.tables.Tables.{Tables}
+use Rattle.tab_ids.specs.declared.DocId.{DocId}
 use Rattle.tab_ids.specs.declared.NavId.{NavId}
 use Rattle.tab_ids.specs.declared.ProcId.{ProcId}
 use Rattle.tab_ids.specs.declared.ReqId.{ReqId}
 use Rattle.tab_ids.specs.declared.StateId.{StateId}
+use Rattle.tab_doors.proofs.PassedOn.{sent_goes}
+use Rattle.tab_passes.proofs.Leavings.{passing_again}
+use Rattle.tab_passes.specs.Leaving.{IsLeavingIn}
+use Rattle.tab_passes.specs.Passing.{IsPassingIn}
 use Rattle.tab_stands.proofs.Coming.{IsComing, taking_then}
 use Rattle.tab_stands.proofs.Dones.{AsksNone, did, did_joined, did_now, did_parked, did_requests, did_tab, held_first}
 use Rattle.tab_stands.proofs.LateEvents.{late_first}
 use Rattle.tab_stands.proofs.MovedEvents.{moved_coming}
 use Rattle.tab_stands.proofs.PassedOn.{queue_over, waiting_on, unheld_first}
 use Rattle.tab_stands.proofs.Placed.{made_asks}
-use Rattle.tab_stands.proofs.Ready.{calm_before}
+use Rattle.tab_stands.proofs.Ready.{calm_before, frees_open}
 use Rattle.tab_stands.proofs.Reports.{between_as, goal_as, lasts_as, told_waiting}
 use Rattle.tab_stands.specs.Delivering.{IsSeenDelivery}
-use Rattle.tab_stands.specs.PassedOn.{AreUnheld, HasQueue, IsPassing, IsQueueing, IsReady, IsStray, IsTaking, LateKnown, LeavesQueue, MayRelease, MovedAreShown}
+use Rattle.tab_stands.specs.PassedOn.{AreUnheld, HasQueue, IsPassing, IsQueueing, IsStray, IsTaking, LateKnown, LeavesQueue, MayRelease, MovedAreShown, NoneRunsWhileHeld, IsReadyIn}
 use Rattle.tab_stands.specs.Standing.{InCheck, IsOwnRead, StandsFor, seen_start}
 use Rattle.tab_unneeded.proofs.Comes.{discarded_comes, discarded_usable, requests_same, then_is}
 use Rattle.log_model.specs.declared.job.Task.TheVariants as tasks
@@ -49,7 +56,7 @@ use Rattle.log_model.specs.declared.job.Why.TheVariants as whys
 use Rattle.log_model.specs.declared.made.Report.TheVariants as reports
 use Rattle.log_model.specs.declared.row_kind.RowKind.TheVariants as rows
 
-module _ (e : InEvent) (proc : ProcId) (job : Job) (outcome : Outcome) (del : IsSeenDelivery e proc (reports.Done job outcome None)) (t : Tables) (queue : Queue) (blame : List (StateId × ReqId)) {check : InCheck} (stands : StandsFor check (seen_start e) t queue blame) (aside : IsOwnRead e) (nav : NavId) (state : StateId) (address : List ℕ) (initial : Bool) (task : job.task ≡ tasks.Populate nav state address initial) (why : Why) (unasked : (req : ReqId) → why ≡ whys.Req req → ⊥) (stray : IsStray (now_of e []) job.doc state) (u : Tables) (noted : KeepsRun t u) (first : IsPassing (record { event = e; loads = check.loads; hand = [] }) [] u) (out : List RowKind) (v : Tables) (is : out ≡ rows.Sent (order_to (now_of e []) job.doc why tasks.Discard) ∷ []) (keeps : KeepsStore u v) (passing : IsPassing (record { event = e; loads = check.loads; hand = [] }) out v) (header : t.kept.keep ≡ e.header.keep) (uncut : e.before ≡ []) where
+module _ (e : InEvent) (proc : ProcId) (job : Job) (outcome : Outcome) (del : IsSeenDelivery e proc (reports.Done job outcome None)) (t : Tables) (queue : Queue) (blame : List (StateId × ReqId)) {check : InCheck} (stands : StandsFor check (seen_start e) t queue blame) (aside : IsOwnRead e) (nav : NavId) (state : StateId) (address : List ℕ) (initial : Bool) (task : job.task ≡ tasks.Populate nav state address initial) (why : Why) (unasked : (req : ReqId) → why ≡ whys.Req req → ⊥) (stray : IsStray (now_of e []) job.doc state) (u : Tables) (noted : KeepsRun t u) (first : IsPassing (record { event = e; loads = check.loads; hand = [] }) [] u) (out : List RowKind) (v : Tables) (is : out ≡ rows.Sent (order_to (now_of e []) job.doc why tasks.Discard) ∷ []) (keeps : KeepsStore u v) (leaving : IsLeavingIn check.holds (record { event = e; loads = check.loads; hand = [] }) None [] out v) (header : t.kept.keep ≡ e.header.keep) (uncut : e.before ≡ []) (undue : (end : Seen) → e.due end ≡ true) where
   abbrev s : Seen
   s = seen_start e
 
@@ -65,7 +72,7 @@ module _ (e : InEvent) (proc : ProcId) (job : Job) (outcome : Outcome) (del : Is
       record { running = keeps.running ∙ noted.running; goal = keeps.goal ∙ noted.goal; keep = keeps.keep ∙ noted.keep; checks = keeps.checks ∙ noted.checks }
 
   plain : ArePlain t.running n
-  plain = subst (λ (r : Option ReqId). ArePlain r n) kept_run.running passing.going.tab.asked
+  plain = subst (λ (r : Option ReqId). ArePlain r n) kept_run.running leaving.going.tab.asked
 
   comes : IsComing blame s n
   comes = discarded_comes e proc job outcome del t queue blame stands aside nav state address initial task why unasked stray out is plain
@@ -83,7 +90,7 @@ module _ (e : InEvent) (proc : ProcId) (job : Job) (outcome : Outcome) (del : Is
 
   taking : IsTaking e v.running blame n
   taking =
-      taking_then (seen_start e) v.running v.kept.keep v.goal blame n (between_as t v kept_run s stands.between) (lasts_as t v kept_run s stands.lasts) (goal_as t v kept_run s.requests stands.tied.goal) check.loads [] passing.going.tab passing.work.goal comes e refl unheld
+      taking_then (seen_start e) v.running v.kept.keep v.goal blame n (between_as t v kept_run s stands.between) (lasts_as t v kept_run s stands.lasts) (goal_as t v kept_run s.requests stands.tied.goal) check.loads [] leaving.going.tab leaving.work.goal comes e refl unheld
     where
       before : (now_of e []).requests ≡ s.requests
       before = ap (λ (x : Seen). x.requests) (did_now e proc job outcome del t queue blame stands aside) ∙ same
@@ -91,6 +98,23 @@ module _ (e : InEvent) (proc : ProcId) (job : Job) (outcome : Outcome) (del : Is
       unheld : AreUnheld e n
       unheld req x its =
           unheld_first (record { event = e; loads = check.loads; hand = [] }) u uncut first req x (record { look = its.look; at = ap (λ (l : List Asked). option_map look (request_in l req)) (before ∙ sym requests) ∙ its.at; ongoing = its.ongoing; loads_it = its.loads_it })
+
+  -- where no traversal runs the tab is calm
+  pub calm_idle : t.running ≡ None → IsCalmYet n
+  calm_idle is = subst (λ (r : Option ReqId). CalmUnless IsCalmYet r n) (kept_run.running ∙ is) taking.calm
+
+  -- nothing is owed that a later row doesn't pay, and passes may follow
+  pub discarded_loose : IsLoose e out
+  discarded_loose =
+      subst (λ (l : List RowKind). IsLoose e l) (sym is)
+      (loose_more e [] (rows.Sent (order_to (now_of e []) job.doc why tasks.Discard)) (sent_goes e [] (order_to (now_of e []) job.doc why tasks.Discard) refl).read (loose_first e undue) (sent_lasts (now_of e []) e.event e.actor (order_to (now_of e []) job.doc why tasks.Discard)) (λ end lasts. refl))
+
+  few : length n.kept ≤ v.kept.keep
+  few =
+      subst (λ (l : List DocId). length l ≤ v.kept.keep) (sym comes.kept) (subst (λ (k : ℕ). length s.kept ≤ k) (sym kept_run.keep) stands.between.few)
+
+  passing : IsPassingIn check.holds (record { event = e; loads = check.loads; hand = [] }) out v
+  passing = passing_again (record { event = e; loads = check.loads; hand = [] }) out v leaving (λ all. discarded_loose) few
 
   -- ---- what waits, and what is held back
 
@@ -129,7 +153,7 @@ module _ (e : InEvent) (proc : ProcId) (job : Job) (outcome : Outcome) (del : Is
     where
       usable : (own : StateId) → HasUsable n own → HasUsable s own
       usable =
-          discarded_usable e proc job outcome del t queue blame stands aside nav state address initial task why unasked stray out is passing.going.tab.whose.numbered
+          discarded_usable e proc job outcome del t queue blame stands aside nav state address initial task why unasked stray out is leaving.going.tab.whose.numbered
 
       ready_was : (q : Asked) → is_ready_load n q ≡ true → is_ready_load s q ≡ true
       ready_was q ready = by_state q.state refl (and_parts (is_ongoing_load q) (holds (λ (own : StateId). list_any (λ (x : Document). is_usable x own) n.documents) q.state) ready)
@@ -167,7 +191,7 @@ module _ (e : InEvent) (proc : ProcId) (job : Job) (outcome : Outcome) (del : Is
 
   -- ---- all of it
 
-  pub discarded_ready : MayDiscardIn false e → IsReady (record { event = e; loads = check.loads; hand = [] }) out v queue blame whys.Start
+  pub discarded_ready : MayDiscardIn check.holds e → IsReadyIn check.holds (record { event = e; loads = check.loads; hand = [] }) out v queue blame whys.Start
   discarded_ready free =
       record {
         passing = passing;
@@ -175,11 +199,11 @@ module _ (e : InEvent) (proc : ProcId) (job : Job) (outcome : Outcome) (del : Is
         header = kept_run.keep ∙ header;
         open_ = taking.open_ whys.Start (λ req never. absurd cc);
         loads = taking.loads;
-        frees = λ at_nav place placed need since. free;
+        frees = frees_open e check.holds v.running n (subst (λ (r : Option ReqId). NoneRunsWhileHeld check.holds r) (sym kept_run.running) stands.alone) (λ open_. subst (λ (b : Bool). MayDiscardIn b e) open_ free) taking.open_;
         blamed = taking.blamed;
         calm = calm_before v.running whys.Start n taking.calm taking.unmoved taking.rooted;
         live = taking.live;
-        late = subst (λ (r : Option ReqId). LateKnown r n) (sym kept_run.running) (late_first blame s n comes t.running passing.going.tab.standing stands.lasts.off);
+        late = subst (λ (r : Option ReqId). LateKnown r n) (sym kept_run.running) (late_first blame s n comes t.running leaving.going.tab.standing stands.lasts.off);
         moved = subst (λ (r : Option ReqId). MovedAreShown r n) (sym kept_run.running) (moved_coming blame s n comes t.running stands.between.tab.asked stands.lasts.moved);
         theirs = comes.theirs;
         queueing = queueing;

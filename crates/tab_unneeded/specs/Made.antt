@@ -4,16 +4,18 @@ use Rattle.tab_stands.specs.Standing.{InCheck, IsOwnRead}
 use Rattle.log_model.specs.declared.job.Job.{Job}
 use Rattle.log_model.specs.declared.job.Why.{Why}
 use Rattle.log_model.specs.declared.outcome.Outcome.{Outcome}
+use Rattle.log_model.specs.declared.row_kind.RowKind.{RowKind}
 use Rattle.move_queue.specs.Queue.{Queue}
 use Rattle.seen_laws.specs.InEvent.{InEvent, now_of}
 use Rattle.std.specs.Prelude.{Bool, List, None, [], ℕ, ◌≡◌}
+use Rattle.tab_doors.specs.declared.tables.Tables.{Tables}
 use Rattle.tab_ids.specs.declared.DocId.{DocId}
 use Rattle.tab_ids.specs.declared.NavId.{NavId}
 use Rattle.tab_ids.specs.declared.ProcId.{ProcId}
 use Rattle.tab_ids.specs.declared.ReqId.{ReqId}
 use Rattle.tab_ids.specs.declared.StateId.{StateId}
 use Rattle.tab_stands.specs.Delivering.{IsSeenDelivery}
-use Rattle.tab_stands.specs.PassedOn.{InPass, IsStray}
+use Rattle.tab_stands.specs.PassedOn.{InPass, IsStray, IsReadyIn}
 use Rattle.log_model.specs.declared.job.Task.TheVariants as tasks
 use Rattle.log_model.specs.declared.job.Why.TheVariants as whys
 use Rattle.log_model.specs.declared.made.Report.TheVariants as reports
@@ -31,6 +33,10 @@ pub record InMade : Type 0 where
 -- a pass of it, with nothing at hand but the loads in their check
 abbrev pub pass_in : InMade → InPass
 pass_in m = record { event = m.event; loads = m.check.loads; hand = [] }
+
+-- a pass may follow, for the start; while a traversal in its check holds the queue, one that sweeps
+abbrev pub IsReadyThen : InMade → List RowKind → Tables → Type 0
+IsReadyThen m out t = IsReadyIn m.check.holds (pass_in m) out t m.queue m.noted whys.Start
 
 -- the event's own row is read off, and the report tells that the document was made for the document state, for this reason, which is no request; and the document is stray then
 pub record IsMadeUnneeded (m : InMade) (doc : DocId) (state : StateId) (why : Why) : Type 0 where

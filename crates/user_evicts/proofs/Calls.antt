@@ -1,4 +1,5 @@
 -- What the call asks of its parts, and what it says, in the words of its contract.
+use Rattle.tab_stands.specs.PassedOn.{IsReadyIn}
 use Rattle.load_doors.specs.Logged.{IsLogged}
 use Rattle.seen_facts.specs.Hang.Members.{Has}
 use Rattle.seen_facts.proofs.Kept.States.{states_oldest}
@@ -10,14 +11,16 @@ use Rattle.move_queue.specs.Queue.{Queue}
 use Rattle.nav_tree.specs.Tree.{docs_of, document_of as document_at}
 use Rattle.nav_tree.specs.declared.place.Place as live_place
 use Rattle.page_cache.specs.Kept.{oldest_of}
+use Rattle.row_facts.specs.Owed.Owed.{IsLoose}
 use Rattle.seen_laws.specs.InEvent.{InEvent, log_of, now_of}
 use Rattle.std.proofs.Common.{Bool, List, None, Option, Some, [], ap, false, refl, subst, sym, true, ◌++◌, ◌∙◌, ◌∷◌, ◌≡◌}
 use Rattle.std.specs.List.Sorted.{IsPermutation}
 use Rattle.std.specs.Option.{IsSome}
 use Rattle.std.specs.Prelude.{is_some, option_and_then, option_map}
 use Rattle.tab_doors.specs.Orders.{order_to}
+use Rattle.tab_facts.specs.Calm.Calm.{IsCalmYet}
 use Rattle.tab_doors.specs.declared.tables.Tables.{Tables}
-use Rattle.tab_doors.specs.Working.{IsAtWork, KeepsStore}
+use Rattle.tab_doors.specs.Working.{IsAtWorkIn, KeepsStore, MayDiscardIn}
 use Rattle.tab_evicts.proofs.Nones.{none_there}
 use Rattle.tab_evicts.proofs.Spans.{stays_then}
 use Rattle.tab_evicts.specs.Evicting.{HasOnlyDiscarded, IsDiscardFor, IsLetting, NoMoreBelow, NoneOfBelow, StaysPlaced}
@@ -25,20 +28,19 @@ use Rattle.tab_ids.specs.declared.DocId.{DocId}
 use Rattle.tab_ids.specs.declared.ReqId.{ReqId}
 use Rattle.tab_ids.specs.declared.StateId.{StateId}
 use Rattle.tab_passes.proofs.Onlies.{only_then}
-use Rattle.tab_stands.specs.PassedOn.{IsReady}
-use Rattle.tab_stands.specs.Standing.{HasRoomFor, InCheck, LastsInLog, StandsFor, StartsUnasked, seen_start}
+use Rattle.tab_stands.specs.Standing.{HasRoomFor, InCheck, LastsInLog, StandsFor, seen_start}
 use Rattle.user_evicts.proofs.Gones.{below_listed, first_fewer, first_letting, first_only, first_stays, first_unkept}
 use Rattle.user_evicts.proofs.Kepts.{its_evicted, its_listed}
 use Rattle.user_evicts.proofs.Lefts.{gone_over}
 use Rattle.user_evicts.proofs.Owns.{due_own, due_start, tab_own, tied_own, were_own}
-use Rattle.user_evicts.proofs.Readies.{evicted_ready}
+use Rattle.user_evicts.proofs.Readies.{calm_idle, evicted_loose, evicted_ready}
 use Rattle.user_evicts.specs.Discarding.{IsEvicted}
 use Rattle.user_evicts.specs.Evicting.{HasEvicted, IsEvictAsk}
 use Rattle.log_model.specs.declared.job.Task.TheVariants as tasks
 use Rattle.log_model.specs.declared.job.Why.TheVariants as whys
 use Rattle.log_model.specs.declared.row_kind.RowKind.TheVariants as rows
 
-module _ (e : InEvent) (state : StateId) (asks : IsEvictAsk e state) (t : Tables) (queue : Queue) (blame : List (StateId × ReqId)) {check : InCheck} (stands : StandsFor check (seen_start e) t queue blame) (aside : StartsUnasked e) (logged : IsLogged e t.checks) (logs : LastsInLog e.checking (log_of e [])) (room : HasRoomFor (seen_start e)) where
+module _ (e : InEvent) (state : StateId) (asks : IsEvictAsk e state) (t : Tables) (queue : Queue) (blame : List (StateId × ReqId)) {check : InCheck} (stands : StandsFor check (seen_start e) t queue blame) (logged : IsLogged e t.checks) (logs : LastsInLog e.checking (log_of e [])) (room : HasRoomFor (seen_start e)) (free : MayDiscardIn check.holds e) where
   abbrev n : Seen
   n = now_of e []
 
@@ -47,9 +49,9 @@ module _ (e : InEvent) (state : StateId) (asks : IsEvictAsk e state) (t : Tables
   oldest_is =
       ap (λ (l : List StateId). oldest_of l) (stands.tied.kept)
       ∙ states_oldest (seen_start e).documents (seen_start e).kept there
-      ∙ ap (λ (o : Option DocId). option_and_then (state_in (seen_start e).documents) o) (due_start e state asks t queue blame stands aside logged logs).last
-      ∙ ap (λ (o : Option Document). option_map (λ (d : Document). d.state) o) (due_start e state asks t queue blame stands aside logged logs).found
-      ∙ ap (λ (x : StateId). let o : Option StateId = Some x in o) (due_start e state asks t queue blame stands aside logged logs).state_is
+      ∙ ap (λ (o : Option DocId). option_and_then (state_in (seen_start e).documents) o) (due_start e state asks t queue blame stands logged logs).last
+      ∙ ap (λ (o : Option Document). option_map (λ (d : Document). d.state) o) (due_start e state asks t queue blame stands logged logs).found
+      ∙ ap (λ (x : StateId). let o : Option StateId = Some x in o) (due_start e state asks t queue blame stands logged logs).state_is
     where
       there : (doc : DocId) → Has (seen_start e).kept doc → (x : StateId) × (state_in (seen_start e).documents doc ≡ Some x)
       there doc has =
@@ -63,7 +65,7 @@ module _ (e : InEvent) (state : StateId) (asks : IsEvictAsk e state) (t : Tables
   longest_is longest at = let both : Some longest ≡ Some state = sym at ∙ oldest_is in cc
 
   listed : option_map (λ (q : live_place.Place). q.doc) (document_at state t.tree) ≡ Some asks.doc
-  listed = its_listed e state asks t (tied_own e state asks t queue blame stands aside logged logs) (tab_own e state asks t queue blame stands aside logged logs) (were_own e state asks t queue blame stands aside logged logs) (due_own e state asks t queue blame stands aside logged logs)
+  listed = its_listed e state asks t (tied_own e state asks t queue blame stands logged logs) (tab_own e state asks t queue blame stands logged logs) (were_own e state asks t queue blame stands logged logs) (due_own e state asks t queue blame stands logged logs)
 
   -- ---- under the names of the call: the state, and the document
 
@@ -84,34 +86,42 @@ module _ (e : InEvent) (state : StateId) (asks : IsEvictAsk e state) (t : Tables
       pub evicted_as : IsEvicted e t doc own
       evicted_as =
           subst (λ (x : StateId). IsEvicted e t doc x) (sym (longest_is own at))
-          (subst (λ (d : DocId). IsEvicted e t d state) doc_is (its_evicted e state asks t (tied_own e state asks t queue blame stands aside logged logs) (tab_own e state asks t queue blame stands aside logged logs) (were_own e state asks t queue blame stands aside logged logs) (due_own e state asks t queue blame stands aside logged logs) aside logged))
+          (subst (λ (d : DocId). IsEvicted e t d state) doc_is (its_evicted e state asks t (tied_own e state asks t queue blame stands logged logs) (tab_own e state asks t queue blame stands logged logs) (were_own e state asks t queue blame stands logged logs) (due_own e state asks t queue blame stands logged logs) logged))
 
       -- ---- it was discarded
 
-      module _ (first : List RowKind) (v : Tables) (put : first ≡ rows.Sent (order_to n doc whys.Evict tasks.Discard) ∷ []) (keeps : KeepsStore t v) (work : IsAtWork e first v) where
+      module _ (first : List RowKind) (v : Tables) (put : first ≡ rows.Sent (order_to n doc whys.Evict tasks.Discard) ∷ []) (keeps : KeepsStore t v) (work : IsAtWorkIn check.holds None e first v) where
         is : first ≡ rows.Sent (order_to n asks.doc whys.Evict tasks.Discard) ∷ []
         is = put ∙ ap (λ (d : DocId). let l : List RowKind = rows.Sent (order_to n d whys.Evict tasks.Discard) ∷ [] in l) (sym doc_is)
 
-        letting : IsLetting (record { pass = record { event = e; loads = check.loads; hand = [] }; moved = None; sweeps = false }) state whys.Evict first v
-        letting = first_letting e state asks t queue blame stands aside logged logs room first v is keeps work
+        letting : IsLetting (record { pass = record { event = e; loads = check.loads; hand = [] }; moved = None; sweeps = check.holds }) state whys.Evict first v
+        letting = first_letting e state asks t queue blame stands logged logs room free first v is keeps work
 
-        pub letting_as : IsLetting (record { pass = record { event = e; loads = check.loads; hand = [] }; moved = None; sweeps = false }) own whys.Evict first v
+        pub letting_as : IsLetting (record { pass = record { event = e; loads = check.loads; hand = [] }; moved = None; sweeps = check.holds }) own whys.Evict first v
         letting_as =
-            subst (λ (x : StateId). IsLetting (record { pass = record { event = e; loads = check.loads; hand = [] }; moved = None; sweeps = false }) x whys.Evict first v) (sym (longest_is own at)) letting
+            subst (λ (x : StateId). IsLetting (record { pass = record { event = e; loads = check.loads; hand = [] }; moved = None; sweeps = check.holds }) x whys.Evict first v) (sym (longest_is own at)) letting
 
         -- ---- and so were those below it
 
         module _ (out : List RowKind) (u : Tables) (more : HasOnlyDiscarded whys.Evict first out) (stays : StaysPlaced (now_of e first) (now_of e out)) (then_ : KeepsStore v u) where
           only : HasOnlyDiscarded whys.Evict [] out
-          only = only_then (IsDiscardFor whys.Evict) [] first out (first_only e state asks t queue blame stands aside logged logs room first v is) more
+          only = only_then (IsDiscardFor whys.Evict) [] first out (first_only e state asks t queue blame stands logged logs room free first v is) more
 
           pub kept_as : KeepsStore t u
           kept_as =
               record { store = then_.store ∙ keeps.store; running = then_.running ∙ keeps.running; goal = then_.goal ∙ keeps.goal; keep = then_.keep ∙ keeps.keep; checks = then_.checks ∙ keeps.checks }
 
-          pub ready_as : t.kept.keep ≡ e.header.keep → IsLetting (record { pass = record { event = e; loads = check.loads; hand = [] }; moved = None; sweeps = false }) own whys.Evict out u → IsReady (record { event = e; loads = check.loads; hand = [] }) out u queue blame whys.Evict
+          pub ready_as : t.kept.keep ≡ e.header.keep → IsLetting (record { pass = record { event = e; loads = check.loads; hand = [] }; moved = None; sweeps = check.holds }) own whys.Evict out u → IsReadyIn check.holds (record { event = e; loads = check.loads; hand = [] }) out u queue blame whys.Evict
           ready_as header so =
-              evicted_ready e state asks t queue blame stands aside logged logs room header out u kept_as (subst (λ (x : StateId). IsLetting (record { pass = record { event = e; loads = check.loads; hand = [] }; moved = None; sweeps = false }) x whys.Evict out u) (longest_is own at) so) only (stays_then n (now_of e first) (now_of e out) (first_stays e state asks t queue blame stands aside logged logs room first v is) stays)
+              evicted_ready e state asks t queue blame stands logged logs room free header out u kept_as (subst (λ (x : StateId). IsLetting (record { pass = record { event = e; loads = check.loads; hand = [] }; moved = None; sweeps = check.holds }) x whys.Evict out u) (longest_is own at) so) only (stays_then n (now_of e first) (now_of e out) (first_stays e state asks t queue blame stands logged logs room free first v is) stays)
+
+          pub loose_as : t.kept.keep ≡ e.header.keep → IsLetting (record { pass = record { event = e; loads = check.loads; hand = [] }; moved = None; sweeps = check.holds }) own whys.Evict out u → IsLoose e out
+          loose_as header so =
+              evicted_loose e state asks t queue blame stands logged logs room free header out u kept_as (subst (λ (x : StateId). IsLetting (record { pass = record { event = e; loads = check.loads; hand = [] }; moved = None; sweeps = check.holds }) x whys.Evict out u) (longest_is own at) so) only (stays_then n (now_of e first) (now_of e out) (first_stays e state asks t queue blame stands logged logs room free first v is) stays)
+
+          pub calm_as : t.kept.keep ≡ e.header.keep → IsLetting (record { pass = record { event = e; loads = check.loads; hand = [] }; moved = None; sweeps = check.holds }) own whys.Evict out u → t.running ≡ None → IsCalmYet (now_of e out)
+          calm_as header so =
+              calm_idle e state asks t queue blame stands logged logs room free header out u kept_as (subst (λ (x : StateId). IsLetting (record { pass = record { event = e; loads = check.loads; hand = [] }; moved = None; sweeps = check.holds }) x whys.Evict out u) (longest_is own at) so) only (stays_then n (now_of e first) (now_of e out) (first_stays e state asks t queue blame stands logged logs room free first v is) stays)
 
           unkept : has_doc (now_of e out).kept asks.doc ≡ false
           unkept = by_test (has_doc (now_of e out).kept asks.doc) refl
@@ -119,7 +129,7 @@ module _ (e : InEvent) (state : StateId) (asks : IsEvictAsk e state) (t : Tables
               by_test : (b : Bool) → has_doc (now_of e out).kept asks.doc ≡ b → has_doc (now_of e out).kept asks.doc ≡ false
               by_test false none = none
               by_test true has =
-                  let never : true ≡ false = sym ((gone_over e first out more).kept asks.doc has) ∙ first_unkept e state asks t queue blame stands aside logged logs room first v is in
+                  let never : true ≡ false = sym ((gone_over e first out more).kept asks.doc has) ∙ first_unkept e state asks t queue blame stands logged logs room free first v is in
                   absurd cc
 
           pub came_as : (docs : List DocId) → IsPermutation (docs_of t.tree) docs → NoMoreBelow own (now_of e first) (now_of e out) → NoneOfBelow docs (now_of e out) own → HasEvicted e state out
@@ -135,6 +145,6 @@ module _ (e : InEvent) (state : StateId) (asks : IsEvictAsk e state) (t : Tables
                 task = refl;
                 why = refl;
                 only = only;
-                none = none_there (record { pass = record { event = e; loads = check.loads; hand = [] }; moved = None; sweeps = false }) state whys.Evict first v letting n (now_of e out) docs t.tree (below_listed e state asks t queue blame stands aside logged logs room) order (first_fewer e state asks t queue blame stands aside logged logs room first v is) (subst (λ (x : StateId). NoMoreBelow x (now_of e first) (now_of e out)) (longest_is own at) fewer) (subst (λ (x : StateId). NoneOfBelow docs (now_of e out) x) (longest_is own at) none);
+                none = none_there (record { pass = record { event = e; loads = check.loads; hand = [] }; moved = None; sweeps = check.holds }) state whys.Evict first v letting n (now_of e out) docs t.tree (below_listed e state asks t queue blame stands logged logs room free) order (first_fewer e state asks t queue blame stands logged logs room free first v is) (subst (λ (x : StateId). NoMoreBelow x (now_of e first) (now_of e out)) (longest_is own at) fewer) (subst (λ (x : StateId). NoneOfBelow docs (now_of e out) x) (longest_is own at) none);
                 unkept = unkept;
               }

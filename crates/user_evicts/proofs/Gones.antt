@@ -1,5 +1,4 @@
 -- The document that the user evicts was discarded: those below it may be, and none of them is awake.
-use Rattle.tab_doors.proofs.Works.{none_steps}
 use Rattle.load_doors.specs.Logged.{IsLogged}
 use Rattle.tab_passes.proofs.PassedOn.{sent_duly}
 use Rattle.unasked.proofs.Nows.{sent_goes, sent_now}
@@ -31,11 +30,12 @@ use Rattle.row_facts.specs.RestRows.Moving.{RestBut}
 use Rattle.seen_laws.proofs.Keyed.{find_on_other, find_on_same}
 use Rattle.seen_laws.specs.InEvent.{InEvent, now_of, row_of, log_of}
 use Rattle.seen_laws.specs.Sending.{leads}
+use Rattle.seen_laws.specs.Unasked.{unhandled}
 use Rattle.std.proofs.Common.{Bool, List, None, Option, Some, [], ap, cond, false, inl, inr, not, refl, subst, sym, true, ◌++◌, ◌==◌, ◌∙◌, ◌∷◌, ◌≡◌}
 use Rattle.std.specs.Prelude.{option_map}
 use Rattle.tab_doors.proofs.Whose.{proc_found}
 use Rattle.tab_doors.specs.Orders.{order_to}
-use Rattle.tab_doors.specs.Working.{IsAtWork, KeepsStore}
+use Rattle.tab_doors.specs.Working.{IsAtWorkIn, KeepsStore, MayDiscardIn}
 use Rattle.tab_doors.specs.declared.tables.Tables.{Tables}
 use Rattle.tab_evicts.proofs.Hangings.{none_awake}
 use Rattle.tab_evicts.proofs.Nones.{there_listed}
@@ -51,7 +51,7 @@ use Rattle.tab_ids.specs.declared.StateId.{StateId}
 use Rattle.tab_passes.proofs.Freezings.{below_none}
 use Rattle.tab_passes.proofs.Onlies.{only_one}
 use Rattle.tab_stands.specs.PassedOn.{IsGoing, IsLoadOf, IsTab}
-use Rattle.tab_stands.specs.Standing.{HasRoomFor, InCheck, LastsInLog, StandsFor, StartsUnasked, seen_start}
+use Rattle.tab_stands.specs.Standing.{HasRoomFor, InCheck, LastsInLog, StandsFor, seen_start}
 use Rattle.user_evicts.proofs.Kepts.{its_kept, its_unloaded, nobody}
 use Rattle.user_evicts.proofs.Owns.{due_own, going_own, rests_own, tab_own, taking_own, tied_own, were_own}
 use Rattle.user_evicts.specs.Evicting.{IsEvictAsk}
@@ -69,7 +69,7 @@ without_itself doc (d ∷ docs) = by_test (d.0 == doc.0) refl (without_itself do
     by_test true same rest = rw same rest
     by_test false apart rest = rw apart (rw apart rest)
 
-module _ (e : InEvent) (state : StateId) (asks : IsEvictAsk e state) (t : Tables) (queue : Queue) (blame : List (StateId × ReqId)) {check : InCheck} (stands : StandsFor check (seen_start e) t queue blame) (aside : StartsUnasked e) (logged : IsLogged e t.checks) (logs : LastsInLog e.checking (log_of e [])) (room : HasRoomFor (seen_start e)) where
+module _ (e : InEvent) (state : StateId) (asks : IsEvictAsk e state) (t : Tables) (queue : Queue) (blame : List (StateId × ReqId)) {check : InCheck} (stands : StandsFor check (seen_start e) t queue blame) (logged : IsLogged e t.checks) (logs : LastsInLog e.checking (log_of e [])) (room : HasRoomFor (seen_start e)) (free : MayDiscardIn check.holds e) where
   abbrev n : Seen
   n = now_of e []
 
@@ -77,7 +77,7 @@ module _ (e : InEvent) (state : StateId) (asks : IsEvictAsk e state) (t : Tables
   doc = asks.doc
 
   abbrev document : Document
-  document = asks.document
+  document = unhandled asks.document
 
   abbrev order : Job
   order = order_to n asks.doc whys.Evict tasks.Discard
@@ -86,22 +86,22 @@ module _ (e : InEvent) (state : StateId) (asks : IsEvictAsk e state) (t : Tables
   then_ = after n (row_of e (rows.Sent order))
 
   abbrev tab : IsTab t.running check.loads [] n
-  tab = tab_own e state asks t queue blame stands aside logged logs
+  tab = tab_own e state asks t queue blame stands logged logs
 
   abbrev were : WereShown n
-  were = were_own e state asks t queue blame stands aside logged logs
+  were = were_own e state asks t queue blame stands logged logs
 
   found : document_of n doc ≡ Some document
-  found = (due_own e state asks t queue blame stands aside logged logs).found
+  found = (due_own e state asks t queue blame stands logged logs).found
 
   states : document.state ≡ state
-  states = (due_own e state asks t queue blame stands aside logged logs).state_is
+  states = (due_own e state asks t queue blame stands logged logs).state_is
 
   kept : Has n.kept doc
-  kept = its_kept e state asks t (tied_own e state asks t queue blame stands aside logged logs) tab were (due_own e state asks t queue blame stands aside logged logs)
+  kept = its_kept e state asks t (tied_own e state asks t queue blame stands logged logs) tab were (due_own e state asks t queue blame stands logged logs)
 
   none_sleep : sleepers_with n doc ≡ []
-  none_sleep = nobody e state asks t (tied_own e state asks t queue blame stands aside logged logs) tab were (due_own e state asks t queue blame stands aside logged logs)
+  none_sleep = nobody e state asks t (tied_own e state asks t queue blame stands logged logs) tab were (due_own e state asks t queue blame stands logged logs)
 
   all_passed : HavePassed n
   all_passed = tab.asked.passed
@@ -120,18 +120,18 @@ module _ (e : InEvent) (state : StateId) (asks : IsEvictAsk e state) (t : Tables
 
   going_then : IsGoing t.running check.loads [] then_
   going_then =
-      sent_going t.running check.loads [] n e.event e.actor (going_own e state asks t queue blame stands aside logged logs room) order check.loads [] (discard_tab t.running check.loads [] n e.event e.actor tab order document to_discard moves refl) (discarded_lasting n e.event e.actor (going_own e state asks t queue blame stands aside logged logs room).lasting order refl (inl none_sleep)) tt
+      sent_going t.running check.loads [] n e.event e.actor (going_own e state asks t queue blame stands logged logs room) order check.loads [] (discard_tab t.running check.loads [] n e.event e.actor tab order document to_discard moves refl) (discarded_lasting n e.event e.actor (going_own e state asks t queue blame stands logged logs room).lasting order refl (inl none_sleep)) tt
 
   rests_then : RestBut [] then_
   rests_then =
-      subst (λ (l : List DocId). RestBut (l ++ []) then_) (below_none n doc none_sleep) (discarded_less n e.event e.actor [] (rests_own e state asks t queue blame stands aside logged logs) order (sent_home t.running check.loads [] n tab order document to_discard) refl)
+      subst (λ (l : List DocId). RestBut (l ++ []) then_) (below_none n doc none_sleep) (discarded_less n e.event e.actor [] (rests_own e state asks t queue blame stands logged logs) order (sent_home t.running check.loads [] n tab order document to_discard) refl)
 
   own_leads : leads e.own ≡ true
   own_leads = ap (λ (k : RowKind). leads k) asks.own
 
   loose_then : IsLoose e (rows.Sent order ∷ [])
   loose_then =
-      loose_more e [] (rows.Sent order) (sent_goes e [] order refl).read (loose_first e aside.undue) (sent_lasts n e.event e.actor order) (λ end lasts. refl)
+      loose_more e [] (rows.Sent order) (sent_goes e [] order refl).read (loose_first e logged.undue) (sent_lasts n e.event e.actor order) (λ end lasts. refl)
 
   -- ---- what is left
 
@@ -151,7 +151,7 @@ module _ (e : InEvent) (state : StateId) (asks : IsEvictAsk e state) (t : Tables
           let both : Some d ≡ Some document = sym at ∙ found in
           let same : d ≡ document = cc in
           let own : d.state ≡ state = ap (λ (x : Document). x.state) same ∙ states in
-          no_loads n t.loads (tied_own e state asks t queue blame stands aside logged logs).loads state (its_unloaded e state asks t (tied_own e state asks t queue blame stands aside logged logs) tab were (due_own e state asks t queue blame stands aside logged logs)) (subst (λ (x : StateId). IsLoads n x) own loads_it)
+          no_loads n t.loads (tied_own e state asks t queue blame stands logged logs).loads state (its_unloaded e state asks t (tied_own e state asks t queue blame stands logged logs) tab were (due_own e state asks t queue blame stands logged logs)) (subst (λ (x : StateId). IsLoads n x) own loads_it)
 
   placed_was : (nav : NavId) (place : Place) → place_of then_ nav ≡ Some place → place_of n nav ≡ Some place
   placed_was nav place at = ap (λ (l : List Place). place_in l nav) (sym places_then) ∙ at
@@ -177,7 +177,7 @@ module _ (e : InEvent) (state : StateId) (asks : IsEvictAsk e state) (t : Tables
   loads_then : NoLoadBelow then_ state
   loads_then req l nav place at ongoing its_own placed =
       let its : IsLoadOf n req nav = record { look = l; at = sym (sent_reads look look_blind n order tasks.Discard n.requests req) ∙ at; ongoing = ongoing; loads_it = its_own } in
-      let up = (taking_own e state asks t queue blame stands aside logged logs).live.awake req nav its in
+      let up = (taking_own e state asks t queue blame stands logged logs).live.awake req nav its in
       none_hung nav place up.0 (placed_was nav place placed) (let both : Some up.1.place ≡ Some place = sym up.1.placed ∙ placed_was nav place placed in let same : up.1.place ≡ place = cc in ap (λ (p : Place). p.status) (sym same) ∙ up.1.wakes)
 
   -- none is there below it that wasn't
@@ -207,7 +207,7 @@ module _ (e : InEvent) (state : StateId) (asks : IsEvictAsk e state) (t : Tables
 
   -- those that are there below it are listed
   pub below_listed : (x : DocId) → IsThereBelow n state x → Has (docs_of t.tree) x
-  below_listed x it = there_listed n t (tied_own e state asks t queue blame stands aside logged logs).holds.documents state x it
+  below_listed x it = there_listed n t (tied_own e state asks t queue blame stands logged logs).holds.documents state x it
 
   -- ---- the order was put out
 
@@ -227,7 +227,7 @@ module _ (e : InEvent) (state : StateId) (asks : IsEvictAsk e state) (t : Tables
     pub first_unkept : has_doc (now_of e new).kept doc ≡ false
     first_unkept = subst (λ (x : Seen). has_doc x.kept doc ≡ false) now_is (without_itself doc n.kept)
 
-    pub first_letting : KeepsStore t u → IsAtWork e new u → IsLetting (record { pass = record { event = e; loads = check.loads; hand = [] }; moved = None; sweeps = false }) state whys.Evict new u
+    pub first_letting : KeepsStore t u → IsAtWorkIn check.holds None e new u → IsLetting (record { pass = record { event = e; loads = check.loads; hand = [] }; moved = None; sweeps = check.holds }) state whys.Evict new u
     first_letting keeps work =
         record {
           leaving = record {
@@ -244,5 +244,5 @@ module _ (e : InEvent) (state : StateId) (asks : IsEvictAsk e state) (t : Tables
           none = subst (λ (x : Seen). NoneBelow x state) now_is none_then;
           moving = λ m never. absurd cc;
           off = λ doc_ d found ready undiscarded shown. inr (λ req never. absurd cc);
-          free = none_steps e.checking aside.unchecked (log_of e []);
+          free = free;
         }

@@ -1,6 +1,5 @@
 -- The document that is kept longest, as the user evicts it: nobody is awake on it, and the tables have it for its state alone.
 use Rattle.load_doors.specs.Logged.{IsLogged}
-use Rattle.tab_stands.specs.Standing.{StartsUnasked}
 use Rattle.seen_facts.proofs.Hang.Hung.{places_distinct}
 use Rattle.seen_facts.proofs.Hang.Members.{has_map}
 use Rattle.seen_facts.proofs.Hang.Parts.{state_is}
@@ -24,6 +23,7 @@ use Rattle.nav_tree.specs.Tree.{document_of as document_at}
 use Rattle.nav_tree.specs.declared.place.Place as live_place
 use Rattle.seen_facts.proofs.Rest.Still.{found_itself}
 use Rattle.seen_laws.specs.InEvent.{InEvent, now_of}
+use Rattle.seen_laws.specs.Unasked.{unhandled}
 use Rattle.std.proofs.Common.{Bool, List, None, Option, Some, [], ap, arith, false, map, not, refl, subst, sym, true, ℕ, ◌&&◌, ◌==◌, ◌||◌, ◌∙◌, ◌≡◌}
 use Rattle.std.proofs.lemmas.Bool.Decides.{nat_tests}
 use Rattle.std.specs.Prelude.{find, option_map}
@@ -58,7 +58,7 @@ all_four true false c d e f g h = absurd cc
 all_four true true true d e f g h = absurd cc
 all_four true true false true e f g h = absurd cc
 
-module _ (e : InEvent) (state : StateId) (asks : IsEvictAsk e state) (t : Tables) (tied : AreTied (now_of e []) t) {ids : List ReqId} (tab : IsTab t.running ids [] (now_of e [])) (were : WereShown (now_of e [])) (due : IsEvictDue (now_of e []) state asks.doc asks.document) where
+module _ (e : InEvent) (state : StateId) (asks : IsEvictAsk e state) (t : Tables) (tied : AreTied (now_of e []) t) {ids : List ReqId} (tab : IsTab t.running ids [] (now_of e [])) (were : WereShown (now_of e [])) (due : IsEvictDue (now_of e []) state asks.doc (unhandled asks.document)) where
   abbrev n : Seen
   n = now_of e []
 
@@ -66,7 +66,7 @@ module _ (e : InEvent) (state : StateId) (asks : IsEvictAsk e state) (t : Tables
   doc = asks.doc
 
   abbrev pub document : Document
-  document = asks.document
+  document = unhandled asks.document
 
   pub its_kept : Has n.kept doc
   its_kept = last_has n.kept doc due.last
@@ -194,15 +194,15 @@ module _ (e : InEvent) (state : StateId) (asks : IsEvictAsk e state) (t : Tables
           let one : of_.it ≡ document = cc in
           ap (λ (y : Sight). y.state) (sym of_.is) ∙ ap (λ (y : Document). y.state) one ∙ due.state_is
 
-  pub its_evicted : StartsUnasked e → IsLogged e t.checks → IsEvicted e t asks.doc state
-  its_evicted aside logged =
+  pub its_evicted : IsLogged e t.checks → IsEvicted e t asks.doc state
+  its_evicted logged =
       record {
-        aside = aside;
         logged = logged;
         by_user = asks.by_user;
         own = asks.own;
-        document = document;
+        was = asks.document;
         began = asks.due;
+        document = document;
         due = due;
         unshown = unshown;
         discards = discards;

@@ -178,7 +178,7 @@ module _ (e : InEvent) (t : Tables) (doc : DocId) (state : StateId) (its : IsEvi
 
   first_may : MayLog (start_of e) (row_of e e.own ∷ []) (IsDiscardedLater doc)
   first_may =
-      subst (λ (row : LogRow). MayLog (start_of e) (row ∷ []) (IsDiscardedLater doc)) (sym own_row) (evicted_may (start_of e) e.event state doc its.document refl its.began)
+      subst (λ (row : LogRow). MayLog (start_of e) (row ∷ []) (IsDiscardedLater doc)) (sym own_row) (evicted_may (start_of e) e.event state doc its.was refl its.began)
 
   evicting : is_evicting (row_of e e.own ∷ []) ≡ true
   evicting = ap (λ (row : LogRow). is_evicting (row ∷ [])) own_row
@@ -190,12 +190,12 @@ module _ (e : InEvent) (t : Tables) (doc : DocId) (state : StateId) (its : IsEvi
   -- the order passes, if the prompts come that it makes due
   pub second_passes : (later : List LogRow) → PromptsLater (here_of e []) (row_of e (rows.Sent discard)) later → EachPass (here_of e []) (row_of e (rows.Sent discard) ∷ []) later
   second_passes later prompts =
-      evict_left_may (here_of e []) e.event e.actor discard left_as.d (led_here e [] own_leads) (numbered_log e [] (now_is e []) discard (numbered n (proc_at n doc) doc whys.Evict tasks.Discard its.known)) (newly_left n later) (kept_last_log e [] (now_is e []) discard its.document left_as (newly_left n later) (due_for (newly_left n later) (λ x is. left_last n later x is))) (subst (λ (h : Here). is_evicting h.done ≡ true) (sym (uncut_first e its.aside.uncut)) evicting) later (prompts, sym (leaves_log e [] (now_is e []) later))
+      evict_left_may (here_of e []) e.event e.actor discard left_as.d (led_here e [] own_leads) (numbered_log e [] (now_is e []) discard (numbered n (proc_at n doc) doc whys.Evict tasks.Discard its.known)) (newly_left n later) (kept_last_log e [] (now_is e []) discard its.document left_as (newly_left n later) (due_for (newly_left n later) (λ x is. left_last n later x is))) (subst (λ (h : Here). is_evicting h.done ≡ true) (sym (uncut_first e its.logged.uncut)) evicting) later (prompts, sym (leaves_log e [] (now_is e []) later))
 
   -- the event's own row passes, if the document is discarded later
   pub own_passes : (todo : ReqId → Option DocId) → PassIf (IsDiscardedLater doc) e todo []
   unfolding PassIf
-  own_passes todo later rest = uncut_pass e [] later its.aside.uncut (first_may later rest.1)
+  own_passes todo later rest = uncut_pass e [] later its.logged.uncut (first_may later rest.1)
 
   -- as it is by the order
   pub discarded_next : (later : List LogRow) → IsDiscardedLater doc (row_of e (rows.Sent discard) ∷ later)

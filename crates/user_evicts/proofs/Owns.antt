@@ -1,7 +1,6 @@
 -- The own row of an eviction was logged: all goes on as it was, and what documents made may be taken.
 use Rattle.log_model.specs.Equal.{has_req}
 use Rattle.load_doors.specs.Logged.{IsLogged}
-use Rattle.tab_stands.proofs.Logged.{own_read, start_plain}
 use Rattle.load_doors.proofs.Starts.{requests_start}
 use Rattle.tab_doors.proofs.Uncut.{uncut_held}
 use Rattle.tab_facts.proofs.Calm.Loads.{loads_same}
@@ -17,7 +16,7 @@ use Rattle.seen_facts.specs.LoadWhereabouts.Whereabouts.{times_on_way, ways_of}
 use Rattle.log_model.specs.Causes.{denial_at_acceptance}
 use Rattle.log_model.specs.Places.{aim_of, all_stand, all_stand_in}
 use Rattle.log_model.specs.Queue.{is_delivered_duly}
-use Rattle.log_model.specs.Seen.{Asked, Seen, request_in, request_of}
+use Rattle.log_model.specs.Seen.{Asked, Document, Seen, request_in, request_of}
 use Rattle.log_model.specs.declared.row_kind.Actor.{Actor}
 use Rattle.log_model.specs.declared.row_kind.LogRow.{LogRow}
 use Rattle.log_model.specs.declared.row_kind.RowKind.{RowKind}
@@ -26,10 +25,11 @@ use Rattle.row_facts.proofs.RestRows.Rows.{evicted_rests}
 use Rattle.row_facts.specs.RestRows.Moving.{AllRest}
 use Rattle.seen_laws.specs.Blocks.{point_at}
 use Rattle.seen_laws.specs.InEvent.{InEvent, IsTakenIn, log_of, now_of, row_of, start_of}
+use Rattle.seen_laws.specs.Unasked.{unhandled}
 use Rattle.std.proofs.Common.{List, None, Option, Some, [], ap, arith, false, inl, inr, length, refl, subst, sym, true, ℕ, ◌+◌, ◌<◌, ◌∙◌, ◌≡◌, ◌≤◌, ◌⊎◌}
 use Rattle.std.proofs.lemmas.Bool.Decides.{nat_tests}
 use Rattle.std.proofs.lemmas.List.{map-id}
-use Rattle.std.specs.Prelude.{nat_lt}
+use Rattle.std.specs.Prelude.{nat_lt, option_map}
 use Rattle.tab_doors.proofs.EndLaws.{left_holds}
 use Rattle.tab_doors.specs.Look.{look_of as sights_of}
 use Rattle.tab_doors.specs.declared.tables.Tables.{Tables}
@@ -44,9 +44,10 @@ use Rattle.tab_stands.proofs.MovedEvents.{moved_coming}
 use Rattle.tab_stands.proofs.PassedOn.{queue_over, steps_still, unstood_by, waiting_first}
 use Rattle.tab_stands.proofs.Waiting.{off_where_runs}
 use Rattle.tab_stands.specs.PassedOn.{AreHeldUp, AreUnheld, HasQueue, HoldsParked, IsGoing, IsLeftStray, IsStray, IsTab, IsTaking, IsWaiting, LateKnown, LeavesQueue, LoadsMadeOwn, MayServe, MovedAreShown}
-use Rattle.tab_stands.specs.Standing.{HasRoomFor, InCheck, LastsInLog, StandsFor, StartsUnasked, seen_start}
+use Rattle.tab_stands.specs.Standing.{HasRoomFor, InCheck, LastsInLog, StandsFor, seen_start}
 use Rattle.tab_facts.proofs.TabWhole.Beginning.{evicted_tab}
 use Rattle.tab_facts.proofs.TabWhole.Where.{way_unheld}
+use Rattle.unasked.proofs.Readings.{document_read}
 use Rattle.user_evicts.specs.Evicting.{IsEvictAsk}
 use Rattle.log_model.specs.declared.row_kind.Actor.TheVariants as actors
 use Rattle.log_model.specs.declared.row_kind.RowKind.TheVariants as rows
@@ -56,7 +57,7 @@ pub evicted_takes : (e : InEvent) (state : StateId) → IsEvictAsk e state → (
 evicted_takes e state asks later =
     ap (λ (k : RowKind). is_delivered_duly (point_at (start_of e) later) (row_of e k)) asks.own
 
-module _ (e : InEvent) (state : StateId) (asks : IsEvictAsk e state) (t : Tables) (queue : Queue) (blame : List (StateId × ReqId)) {check : InCheck} (stands : StandsFor check (seen_start e) t queue blame) (aside : StartsUnasked e) (logged : IsLogged e t.checks) (logs : LastsInLog e.checking (log_of e [])) where
+module _ (e : InEvent) (state : StateId) (asks : IsEvictAsk e state) (t : Tables) (queue : Queue) (blame : List (StateId × ReqId)) {check : InCheck} (stands : StandsFor check (seen_start e) t queue blame) (logged : IsLogged e t.checks) (logs : LastsInLog e.checking (log_of e [])) where
   abbrev s : Seen
   s = seen_start e
 
@@ -65,7 +66,7 @@ module _ (e : InEvent) (state : StateId) (asks : IsEvictAsk e state) (t : Tables
 
   now : now_of e [] ≡ went
   now =
-      own_read e aside
+      logged.read
       ∙ (ap (λ (a : Actor). next (seen_start e) e.event a e.own) asks.by_user
       ∙ ap (λ (k : RowKind). next (seen_start e) e.event actors.Ui k) asks.own)
 
@@ -82,12 +83,13 @@ module _ (e : InEvent) (state : StateId) (asks : IsEvictAsk e state) (t : Tables
   few_own = subst (λ (x : Seen). length x.kept ≤ t.kept.keep) (sym now) stands.between.few
 
   -- it is kept longest still
-  pub due_start : IsEvictDue (seen_start e) state asks.doc asks.document
-  due_start = subst (λ (x : Seen). IsEvictDue x state asks.doc asks.document) (sym (start_plain e aside)) asks.due
+  pub due_start : IsEvictDue (seen_start e) state asks.doc (unhandled asks.document)
+  due_start =
+      record { last = asks.due.last; found = document_read e.checking e.start asks.doc ∙ ap (λ (o : Option Document). option_map unhandled o) asks.due.found; state_is = asks.due.state_is }
 
-  pub due_own : IsEvictDue (now_of e []) state asks.doc asks.document
+  pub due_own : IsEvictDue (now_of e []) state asks.doc (unhandled asks.document)
   due_own =
-      subst (λ (x : Seen). IsEvictDue x state asks.doc asks.document) (sym now) (record { last = due_start.last; found = due_start.found; state_is = due_start.state_is })
+      subst (λ (x : Seen). IsEvictDue x state asks.doc (unhandled asks.document)) (sym now) (record { last = due_start.last; found = due_start.found; state_is = due_start.state_is })
 
   -- ---- the tables
 
@@ -187,7 +189,7 @@ module _ (e : InEvent) (state : StateId) (asks : IsEvictAsk e state) (t : Tables
   unheld r n load_ =
       let its : IsAskedFor (now_of e []) r n = asked_for (now_of e []) r n load_ in
       let way : 0 < times_on_way (request_in (now_of e []).requests r) = subst (λ (o : Option Asked). 0 < times_on_way o) (sym its.at) (let one : 0 < ways_of its.q = rw its.ongoing (omega arith) in one) in
-      ap (λ (l : List ReqId). has_req l r) (sym (uncut_held e aside.uncut)) ∙ (way_unheld t.running check.loads [] (now_of e []) tab_own r way).parked
+      ap (λ (l : List ReqId). has_req l r) (sym (uncut_held e logged.uncut)) ∙ (way_unheld t.running check.loads [] (now_of e []) tab_own r way).parked
 
   pub taking_own : IsTaking e t.running blame (now_of e [])
   taking_own =
@@ -200,7 +202,7 @@ module _ (e : InEvent) (state : StateId) (asks : IsEvictAsk e state) (t : Tables
   -- ---- what waits, and what is held back
 
   pub waiting_own : IsWaiting e []
-  waiting_own = waiting_first e aside.uncut tab_own.known (λ req q has at. early req q at)
+  waiting_own = waiting_first e logged.uncut tab_own.known (λ req q has at. early req q at)
     where
       early : (req : ReqId) (q : Asked) → request_of (now_of e []) req ≡ Some q → denial_at_acceptance e.start q.what ≡ None ⊎ (nat_lt (length e.start.requests) req.0 ≡ false)
       early req q at =

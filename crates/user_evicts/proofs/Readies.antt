@@ -1,5 +1,4 @@
 -- The document that is kept longest was discarded for the eviction, with those below it: a pass may follow.
-use Rattle.tab_doors.proofs.Works.{none_steps}
 use Rattle.load_doors.specs.Logged.{IsLogged}
 use Rattle.seen_facts.specs.Asked.Asking.{ArePlain}
 use Rattle.seen_facts.specs.Coord.Leading.{held_back}
@@ -15,27 +14,29 @@ use Rattle.row_facts.proofs.Owed.Ends.{loose_first}
 use Rattle.row_facts.specs.Owed.Owed.{IsLoose}
 use Rattle.seen_laws.proofs.Sendings.{both}
 use Rattle.seen_laws.specs.InEvent.{InEvent, log_of, now_of}
-use Rattle.std.proofs.Common.{List, None, Option, Some, [], ap, arith, false, inl, length, refl, subst, sym, true, ℕ, ◌∙◌, ◌≡◌, ◌≤◌}
+use Rattle.std.proofs.Common.{Bool, List, None, Option, Some, [], ap, arith, false, inl, length, refl, subst, sym, true, ℕ, ◌∙◌, ◌≡◌, ◌≤◌}
 use Rattle.std.proofs.lemmas.Bool.{and_parts}
 use Rattle.std.specs.List.{list_any}
 use Rattle.std.specs.Prelude.{option_map}
-use Rattle.tab_doors.specs.Working.{KeepsStore}
+use Rattle.tab_doors.specs.Working.{KeepsStore, MayDiscardIn}
 use Rattle.tab_doors.specs.declared.tables.Tables.{Tables}
 use Rattle.tab_evicts.specs.Evicting.{HasOnlyDiscarded, IsLetting, StaysPlaced}
 use Rattle.tab_ids.specs.declared.ReqId.{ReqId}
 use Rattle.tab_ids.specs.declared.StateId.{StateId}
+use Rattle.tab_facts.specs.Calm.Calm.{CalmUnless, IsCalmYet}
 use Rattle.tab_passes.proofs.Leavings.{passing_again}
+use Rattle.tab_passes.specs.Passing.{IsPassingIn}
 use Rattle.tab_stands.proofs.PassedOn.{IsUnapplied, late_put, queue_over, waiting_on}
-use Rattle.tab_stands.proofs.Ready.{calm_before}
-use Rattle.tab_stands.specs.PassedOn.{HasQueue, InPass, IsPassing, IsQueueing, IsReady, IsTaking, LateKnown, LeavesQueue, MovedAreShown}
-use Rattle.tab_stands.specs.Standing.{HasRoomFor, InCheck, LastsInLog, StandsFor, StartsUnasked, seen_start}
+use Rattle.tab_stands.proofs.Ready.{calm_before, frees_open}
+use Rattle.tab_stands.specs.PassedOn.{HasQueue, InPass, IsQueueing, IsTaking, LateKnown, LeavesQueue, MovedAreShown, NoneRunsWhileHeld, IsReadyIn}
+use Rattle.tab_stands.specs.Standing.{HasRoomFor, InCheck, LastsInLog, StandsFor, seen_start}
 use Rattle.user_evicts.proofs.Lefts.{LeavesGone, gone_over, loose_over, untraversed}
 use Rattle.user_evicts.proofs.Owns.{few_own, late_own, moved_own, none_held, off_own, parked_own, queued_own, taking_own, theirs_own, waiting_own}
 use Rattle.user_evicts.proofs.Takings.{aim_still, gone_moved, gone_taking, gone_theirs, history_same, wishes_same}
 use Rattle.user_evicts.specs.Evicting.{IsEvictAsk}
 use Rattle.log_model.specs.declared.job.Why.TheVariants as whys
 
-module _ (e : InEvent) (state : StateId) (asks : IsEvictAsk e state) (t : Tables) (queue : Queue) (blame : List (StateId × ReqId)) {check : InCheck} (stands : StandsFor check (seen_start e) t queue blame) (aside : StartsUnasked e) (logged : IsLogged e t.checks) (logs : LastsInLog e.checking (log_of e [])) (room : HasRoomFor (seen_start e)) (header : t.kept.keep ≡ e.header.keep) (out : List RowKind) (u : Tables) (keeps : KeepsStore t u) (letting : IsLetting (record { pass = record { event = e; loads = check.loads; hand = [] }; moved = None; sweeps = false }) state whys.Evict out u) (only : HasOnlyDiscarded whys.Evict [] out) (stays : StaysPlaced (now_of e []) (now_of e out)) where
+module _ (e : InEvent) (state : StateId) (asks : IsEvictAsk e state) (t : Tables) (queue : Queue) (blame : List (StateId × ReqId)) {check : InCheck} (stands : StandsFor check (seen_start e) t queue blame) (logged : IsLogged e t.checks) (logs : LastsInLog e.checking (log_of e [])) (room : HasRoomFor (seen_start e)) (free : MayDiscardIn check.holds e) (header : t.kept.keep ≡ e.header.keep) (out : List RowKind) (u : Tables) (keeps : KeepsStore t u) (letting : IsLetting (record { pass = record { event = e; loads = check.loads; hand = [] }; moved = None; sweeps = check.holds }) state whys.Evict out u) (only : HasOnlyDiscarded whys.Evict [] out) (stays : StaysPlaced (now_of e []) (now_of e out)) where
   abbrev s : Seen
   s = now_of e []
 
@@ -55,7 +56,7 @@ module _ (e : InEvent) (state : StateId) (asks : IsEvictAsk e state) (t : Tables
   plain = subst (λ (r : Option ReqId). ArePlain r n) keeps.running plain_u
 
   was : IsTaking e t.running blame s
-  was = taking_own e state asks t queue blame stands aside logged logs
+  was = taking_own e state asks t queue blame stands logged logs
 
   taking : IsTaking e t.running blame n
   taking = gone_taking e t.running blame s n was plain stays left letting.were
@@ -63,15 +64,16 @@ module _ (e : InEvent) (state : StateId) (asks : IsEvictAsk e state) (t : Tables
   taking_u : IsTaking e u.running blame n
   taking_u = subst (λ (r : Option ReqId). IsTaking e r blame n) (sym keeps.running) taking
 
-  loose : IsLoose e out
-  loose = loose_over e [] out only (loose_first e aside.undue)
+  -- and nothing is owed that a later row doesn't pay
+  pub evicted_loose : IsLoose e out
+  evicted_loose = loose_over e [] out only (loose_first e logged.undue)
 
   few : length n.kept ≤ u.kept.keep
   few =
-      (let less : length n.kept ≤ length s.kept = left.few in let low : length s.kept ≤ t.kept.keep = few_own e state asks t queue blame stands aside logged logs in let same : u.kept.keep ≡ t.kept.keep = keeps.keep in omega (arith, less, low, same))
+      (let less : length n.kept ≤ length s.kept = left.few in let low : length s.kept ≤ t.kept.keep = few_own e state asks t queue blame stands logged logs in let same : u.kept.keep ≡ t.kept.keep = keeps.keep in omega (arith, less, low, same))
 
-  passing : IsPassing p out u
-  passing = passing_again p out u letting.leaving (λ all. loose) few
+  passing : IsPassingIn check.holds p out u
+  passing = passing_again p out u letting.leaving (λ all. evicted_loose) few
 
   -- ---- what waits, and what is held back
 
@@ -110,17 +112,21 @@ module _ (e : InEvent) (state : StateId) (asks : IsEvictAsk e state) (t : Tables
   queueing : IsQueueing p out u queue
   queueing =
       record {
-        waits = waiting_on e [] out (inl left.parked) (λ req. wishes_same e t.running blame s n was plain stays left letting.were req) (λ req has. ap (λ (l : List ReqId). has_req l req) (sym left.joined) ∙ has) (waiting_own e state asks t queue blame stands aside logged logs);
-        queued = subst (λ (r : Option ReqId). HasQueue n r queue.waiting) (sym keeps.running) (queue_over s n leaves t.running queue.waiting (queued_own e state asks t queue blame stands aside logged logs));
-        parked = parked_own e state asks t queue blame stands aside logged logs ∙ ap (λ (l : List Asked). held_back l s.parked) (sym left.requests) ∙ ap (λ (l : List ReqId). held_back n.requests l) (sym left.parked);
-        held = λ idle. left.parked ∙ none_held e state asks t queue blame stands aside logged logs (sym keeps.running ∙ idle);
-        over = λ has. absurd (let never : false ≡ true = sym (untraversed e out aside.uncut only) ∙ has in cc);
-        releasing = λ some all. absurd (off_own e state asks t queue blame stands aside logged logs (λ none. some (left.parked ∙ none)) (sym stood ∙ all));
+        waits = waiting_on e [] out (inl left.parked) (λ req. wishes_same e t.running blame s n was plain stays left letting.were req) (λ req has. ap (λ (l : List ReqId). has_req l req) (sym left.joined) ∙ has) (waiting_own e state asks t queue blame stands logged logs);
+        queued = subst (λ (r : Option ReqId). HasQueue n r queue.waiting) (sym keeps.running) (queue_over s n leaves t.running queue.waiting (queued_own e state asks t queue blame stands logged logs));
+        parked = parked_own e state asks t queue blame stands logged logs ∙ ap (λ (l : List Asked). held_back l s.parked) (sym left.requests) ∙ ap (λ (l : List ReqId). held_back n.requests l) (sym left.parked);
+        held = λ idle. left.parked ∙ none_held e state asks t queue blame stands logged logs (sym keeps.running ∙ idle);
+        over = λ has. absurd (let never : false ≡ true = sym (untraversed e out logged.uncut only) ∙ has in cc);
+        releasing = λ some all. absurd (off_own e state asks t queue blame stands logged logs (λ none. some (left.parked ∙ none)) (sym stood ∙ all));
       }
+
+  -- where no traversal runs the tab is calm
+  pub calm_idle : t.running ≡ None → IsCalmYet n
+  calm_idle is = subst (λ (r : Option ReqId). CalmUnless IsCalmYet r n) is taking.calm
 
   -- ---- all of it
 
-  pub evicted_ready : IsReady (record { event = e; loads = check.loads; hand = [] }) out u queue blame whys.Evict
+  pub evicted_ready : IsReadyIn check.holds (record { event = e; loads = check.loads; hand = [] }) out u queue blame whys.Evict
   evicted_ready =
       record {
         passing = passing;
@@ -128,12 +134,12 @@ module _ (e : InEvent) (state : StateId) (asks : IsEvictAsk e state) (t : Tables
         header = keeps.keep ∙ header;
         open_ = taking_u.open_ whys.Evict (λ req never. absurd cc);
         loads = taking_u.loads;
-        frees = λ nav place placed need since. none_steps e.checking aside.unchecked (log_of e []);
+        frees = frees_open e check.holds u.running n (subst (λ (r : Option ReqId). NoneRunsWhileHeld check.holds r) (sym keeps.running) stands.alone) (λ open_. subst (λ (b : Bool). MayDiscardIn b e) open_ free) taking_u.open_;
         blamed = taking_u.blamed;
         calm = calm_before u.running whys.Evict n taking_u.calm taking_u.unmoved taking_u.rooted;
         live = taking_u.live;
-        late = subst (λ (r : Option ReqId). LateKnown r n) (sym keeps.running) (late_put e t.running [] out passing.work.goes (record { more = only.more; is = only.is; each = λ row has. (let it = only.each row has in subst IsUnapplied (sym it.is) tt) }) stays.places history (late_own e state asks t queue blame stands aside logged logs));
-        moved = subst (λ (r : Option ReqId). MovedAreShown r n) (sym keeps.running) (gone_moved s n stays left t.running (moved_own e state asks t queue blame stands aside logged logs));
-        theirs = gone_theirs s n left (theirs_own e state asks t queue blame stands aside logged logs);
+        late = subst (λ (r : Option ReqId). LateKnown r n) (sym keeps.running) (late_put e t.running [] out passing.work.goes (record { more = only.more; is = only.is; each = λ row has. (let it = only.each row has in subst IsUnapplied (sym it.is) tt) }) stays.places history (late_own e state asks t queue blame stands logged logs));
+        moved = subst (λ (r : Option ReqId). MovedAreShown r n) (sym keeps.running) (gone_moved s n stays left t.running (moved_own e state asks t queue blame stands logged logs));
+        theirs = gone_theirs s n left (theirs_own e state asks t queue blame stands logged logs);
         queueing = queueing;
       }

@@ -3,8 +3,8 @@ use Rattle.tab_doors.proofs.PassedOn.{debts_own, read_more, read_own, sole_own}
 use Rattle.unasked.proofs.Nows.{sent_now, sent_goes}
 use Rattle.checking_facts.proofs.Besides.{ends_more}
 use Rattle.checking_facts.proofs.Cases.{other_wakes}
-use Rattle.checking_facts.proofs.Rows.{row_checks}
-use Rattle.checking_facts.specs.Checks.{AreInCheck}
+use Rattle.checking_facts.proofs.Rows.{row_checks, row_steps}
+use Rattle.checking_facts.specs.Checks.{AreInCheck, PutsNoneAsleep}
 use Rattle.checking_facts.specs.Prompts.{PassIf, noted_in}
 use Rattle.row_facts.specs.LeaveRows.Evicting.{IsDiscardedLater}
 use Rattle.tab_doors.proofs.Leavable.{IsLeftAs}
@@ -26,25 +26,25 @@ use Rattle.seen_facts.specs.Each.Runs.{is_run}
 use Rattle.seen_laws.proofs.InEvents.{log_more, goes_more, none_goes}
 use Rattle.seen_laws.specs.InEvent.{InEvent, log_of, now_of, row_of}
 use Rattle.seen_laws.specs.Sending.{leads}
-use Rattle.std.proofs.Common.{List, None, Option, Some, [], ap, false, length, refl, subst, sym, true, ℕ, ◌++◌, ◌+◌, ◌==◌, ◌∙◌, ◌∷◌, ◌≡◌, ◌≤◌}
+use Rattle.std.proofs.Common.{Bool, List, None, Option, Some, [], ap, false, length, refl, subst, sym, true, ℕ, ◌++◌, ◌+◌, ◌==◌, ◌∙◌, ◌∷◌, ◌≡◌, ◌≤◌}
 use Rattle.std.proofs.lemmas.List.{length-map}
 use Rattle.tab_doors.specs.PassedOn.{AreAskedDuly, noted_by, told_by}
 use Rattle.checking_facts.proofs.Steps.{more_duly, more_pass}
 use Rattle.unload_check.specs.Checks.{OpenCheck}
 use Rattle.row_facts.proofs.FrameRows.Discards.{discard_quiet}
 use Rattle.row_facts.proofs.FrameRows.LawfulLaws.{keeps_held}
-use Rattle.unasked_dues.specs.Checking.{AllOthersPass}
+use Rattle.unasked_dues.specs.Checking.{AllOthersPass, NoStepChecks}
 use Rattle.tab_doors.proofs.Discarding.{discard_holds}
 use Rattle.tab_doors.proofs.Initial.{initial_same}
 use Rattle.tab_doors.proofs.Keeping.{gone_tied}
 use Rattle.tab_doors.proofs.ShowWorks.{served_same}
 use Rattle.tab_doors.proofs.Telling.{SendsOne}
-use Rattle.tab_doors.proofs.Works.{few_sent, goal_on, goal_read, kept_gone, none_steps, runs_on, soles_more, steps_calm}
+use Rattle.tab_doors.proofs.Works.{few_sent, goal_on, goal_read, kept_gone, runs_on, soles_more, steps_calm}
 use Rattle.tab_doors.specs.Look.{look_of, sight}
 use Rattle.tab_doors.proofs.Whose.{proc_known, proc_same}
 use Rattle.tab_doors.specs.Orders.{numbered_order, order_to, proc_at}
 use Rattle.tab_doors.specs.Ties.{AreInitial, Holds, IsRunning, proc_in}
-use Rattle.tab_doors.specs.Working.{HasGoal, IsAhead, IsAtWork, IsToCome, IsWorker}
+use Rattle.tab_doors.specs.Working.{HasGoal, IsAhead, IsAtWorkIn, IsCalmIn, IsToCome, IsWorker, MayDiscardIn}
 use Rattle.tab_doors.specs.declared.tables.Tables.{Tables}
 use Rattle.tab_ids.specs.declared.DocId.{DocId}
 use Rattle.std.specs.Option.{IsSome}
@@ -58,7 +58,7 @@ use Rattle.log_model.specs.declared.job.Task.TheVariants as tasks
 use Rattle.log_model.specs.declared.job.Why.TheVariants as whys
 use Rattle.log_model.specs.declared.row_kind.RowKind.TheVariants as rows
 
-module _ (e : InEvent) (t u : Tables) (doc : DocId) (state : StateId) (tied : AreTied (now_of e []) t) (its : IsEvicted e t doc state) where
+module _ (sweeps : Bool) (e : InEvent) (t u : Tables) (doc : DocId) (state : StateId) (tied : AreTied (now_of e []) t) (its : IsEvicted e t doc state) where
   abbrev n : Seen
   n = now_of e []
 
@@ -75,19 +75,33 @@ module _ (e : InEvent) (t u : Tables) (doc : DocId) (state : StateId) (tied : Ar
   now_then : then_ ≡ now_of e (rows.Sent order ∷ [])
   now_then = sym (sent_now e [] order refl)
 
-  pub evicted_work : u.tree ≡ discarded state t.tree → SendsOne t u t.shown.entries t.last.entries → u.running ≡ t.running → u.goal ≡ t.goal → u.kept ≡ record t.kept { states = without state t.kept.states } → IsAtWork e (rows.Sent order ∷ []) u
-  evicted_work tree one running goal kept =
+  -- it is for no request, so none in its check puts anybody to sleep by it
+  wakes : PutsNoneAsleep e.checking (log_of e []) order
+  wakes = other_wakes e.checking (log_of e []) order (λ req never. absurd cc)
+
+  -- no step is in its check, if none was
+  unheld_then : NoStepChecks e.checking (log_of e []) → NoStepChecks e.checking (log_of e (rows.Sent order ∷ []))
+  unheld_then free =
+      subst (λ (x : Seen). NoStepChecks e.checking x) (sym (log_more e [] (rows.Sent order))) (row_steps e.checking (log_of e []) (row_of e (rows.Sent order)) tt wakes free)
+
+  -- so no traversal in its check has passed, unless that was let go
+  calm_then : (b : Bool) → MayDiscardIn b e → IsCalmIn b e.checking (log_of e (rows.Sent order ∷ []))
+  calm_then true free = tt
+  calm_then false free = steps_calm e.checking (log_of e (rows.Sent order ∷ [])) (unheld_then free)
+
+  pub evicted_work : MayDiscardIn sweeps e → u.tree ≡ discarded state t.tree → SendsOne t u t.shown.entries t.last.entries → u.running ≡ t.running → u.goal ≡ t.goal → u.kept ≡ record t.kept { states = without state t.kept.states } → IsAtWorkIn sweeps None e (rows.Sent order ∷ []) u
+  evicted_work free tree one running goal kept =
       record {
         own = ap (λ (k : RowKind). leads k) its.own;
         worker = subst (λ (a : Actor). IsWorker a) (sym its.by_user) tt;
         goes = goes_more e [] [] (rows.Sent order) (none_goes e []) (sent_goes e [] order refl);
         numbered = its.logged.numbered;
         read = read_more e [] (rows.Sent order) (read_own e (record { numbered = its.logged.checking.numbered; others = its.logged.checking.others })) (record { numbered = checks_.numbered; others = checks_.others });
-        sole = soles_more e [] (rows.Sent order) tt (sole_own e (log_of e []) its.aside.uncut);
-        debts = debts_own e its.aside.uncut;
+        sole = soles_more e [] (rows.Sent order) tt (sole_own e (log_of e []) its.logged.uncut);
+        debts = debts_own e its.logged.uncut;
         checks = checks_;
-        calm = steps_calm e.checking (log_of e (rows.Sent order ∷ [])) (none_steps e.checking its.aside.unchecked (log_of e (rows.Sent order ∷ [])));
-        unheld = λ free. none_steps e.checking its.aside.unchecked (log_of e (rows.Sent order ∷ []));
+        calm = calm_then sweeps free;
+        unheld = unheld_then;
         off = ends_more e.checking [] (rows.Sent order) (λ row has. absurd has) tt;
         holds = subst (λ (x : Seen). Holds (look_of x u.running) u) now_then (subst (λ (r : Option ReqId). Holds (look_of then_ r) u) (sym running) (discard_holds n t.running e.event e.actor (proc_at n doc) doc whys.Evict state [] t tied.holds tied.runs its.gone.are its.gone.its_state its.gone.its u tree one));
         runs = subst (λ (x : Seen). IsRunning x.requests u.running) now_then (runs_on n.requests then_.requests t u (served_same is_run n order tasks.Discard whys.Evict (λ q. refl)) running tied.runs);
@@ -103,7 +117,7 @@ module _ (e : InEvent) (t u : Tables) (doc : DocId) (state : StateId) (tied : Ar
       checks_ : AreInCheck e.checking (log_of e (rows.Sent order ∷ []))
       checks_ =
           subst (λ (x : Seen). AreInCheck e.checking x) (sym (log_more e [] (rows.Sent order)))
-          (row_checks e.checking (log_of e []) (row_of e (rows.Sent order)) (other_wakes e.checking (log_of e []) order (λ req is. its.aside.unchecked req)) tt its.logged.checking)
+          (row_checks e.checking (log_of e []) (row_of e (rows.Sent order)) wakes tt its.logged.checking)
 
       -- the document as the log has it
       left : IsLeftAs e [] order its.document

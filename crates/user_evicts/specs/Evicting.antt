@@ -9,10 +9,11 @@ use Rattle.move_queue.specs.Queue.{Queue}
 use Rattle.seen_laws.specs.InEvent.{InEvent, now_of}
 use Rattle.std.specs.Prelude.{List, [], false, ◌∷◌, ◌≡◌}
 use Rattle.tab_evicts.specs.Evicting.{HasOnlyDiscarded, NoneThereBelow}
+use Rattle.tab_doors.specs.declared.tables.Tables.{Tables}
 use Rattle.tab_ids.specs.declared.DocId.{DocId}
 use Rattle.tab_ids.specs.declared.ReqId.{ReqId}
 use Rattle.tab_ids.specs.declared.StateId.{StateId}
-use Rattle.tab_stands.specs.PassedOn.{InPass}
+use Rattle.tab_stands.specs.PassedOn.{InPass, IsReadyIn}
 use Rattle.tab_stands.specs.Standing.{InCheck}
 use Rattle.log_model.specs.declared.job.Task.TheVariants as tasks
 use Rattle.log_model.specs.declared.job.Why.TheVariants as whys
@@ -30,6 +31,10 @@ pub record InEvict : Type 0 where
 -- a pass of it, with nothing at hand but the loads in their check
 abbrev pub pass_in : InEvict → InPass
 pass_in b = record { event = b.event; loads = b.check.loads; hand = [] }
+
+-- a pass may follow, for the eviction; while a traversal in its check holds the queue, one that sweeps
+abbrev pub IsReadyThen : InEvict → List RowKind → Tables → Type 0
+IsReadyThen b out t = IsReadyIn b.check.holds (pass_in b) out t b.queue b.noted whys.Evict
 
 -- in this event the user evicts the document that is kept longest, which is of this document state
 pub record IsEvictAsk (e : InEvent) (state : StateId) : Type 0 where

@@ -1,12 +1,12 @@
 //! The document that is kept longest is discarded as the user evicts it.
-ghost use Rattle.std.specs.Prelude.{◌≡◌, ◌∷◌, [], OnOk};
+ghost use Rattle.std.specs.Prelude.{◌≡◌, ◌∷◌, [], None, OnOk};
 ghost use Rattle.load_doors.specs.Tied.{AreTied};
 ghost use Rattle.log_model.specs.declared.job.Task.TheVariants as tasks;
 ghost use Rattle.log_model.specs.declared.job.Why.TheVariants as whys;
 ghost use Rattle.log_model.specs.declared.row_kind.RowKind.TheVariants as rows;
-ghost use Rattle.seen_laws.specs.InEvent.{InEvent, now_of};
+ghost use Rattle.seen_laws.specs.InEvent.{now_of};
 ghost use Rattle.tab_doors.specs.Orders.{order_to};
-ghost use Rattle.tab_doors.specs.Working.{IsAtWork, KeepsStore};
+ghost use Rattle.tab_doors.specs.Working.{InSweep, IsAtWorkIn, KeepsStore, MayDiscardIn};
 ghost use Rattle.user_evicts.specs.Discarding.{IsEvicted};
 
 use address::OutOfMemory;
@@ -21,12 +21,13 @@ pub fn discard_evicted(
     doc: DocId,
     state: StateId,
 ) -> Result<(), OutOfMemory>
-    ghost e: { InEvent }
+    ghost s: { InSweep }
     requires first { out.old ≡ [] }
-    requires tied { AreTied (now_of e []) tables.old }
-    requires evicted { IsEvicted e tables.old doc state }
-    ensures work { OnOk result (IsAtWork e out.new tables.new) }
-    ensures out { OnOk result (out.new ≡ rows.Sent (order_to (now_of e []) doc whys.Evict tasks.Discard) ∷ []) }
+    requires tied { AreTied (now_of s.event []) tables.old }
+    requires evicted { IsEvicted s.event tables.old doc state }
+    requires free { MayDiscardIn s.sweeps s.event }
+    ensures work { OnOk result (IsAtWorkIn s.sweeps None s.event out.new tables.new) }
+    ensures out { OnOk result (out.new ≡ rows.Sent (order_to (now_of s.event []) doc whys.Evict tasks.Discard) ∷ []) }
     ensures kept { OnOk result (KeepsStore tables.old tables.new) }
 {
     let proc = tables.proc_there(doc);

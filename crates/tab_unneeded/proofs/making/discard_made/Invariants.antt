@@ -1,5 +1,6 @@
+use Rattle.std.proofs.Common.{None, []}
 use Rattle.tab_unneeded.proofs.making.discard_made.Given as goal
 use Rattle.tab_unneeded.specs.Made.{pass_in}
 
-abbrev pub ghost-discard_unneeded : goal.ghost-discard_unneeded
-ghost-discard_unneeded g a = pass_in g.m
+abbrev pub ghost-discard : goal.ghost-discard
+ghost-discard g a = record { pass = pass_in g.m; move = None; docs = []; sweeps = g.m.check.holds }
