@@ -7,17 +7,17 @@ use Rattle.log_model.specs.Seen.{Asked, request_of}
 use Rattle.log_model.specs.declared.job.Why.{Why}
 use Rattle.log_model.specs.declared.row_kind.RowKind.{RowKind}
 use Rattle.move_queue.specs.Queue.{Queue}
-use Rattle.row_facts.specs.Owed.Owed.{owes_seen}
+use Rattle.row_facts.specs.Owed.Owed.{IsLoose, owes_seen}
 use Rattle.seen_laws.specs.InEvent.{EndAsWanted, InEvent, cut_wanting, log_of, now_of}
 use Rattle.std.specs.Option.{option_map_or}
-use Rattle.std.specs.Prelude.{Bool, List, None, Some, [], false, true, ◌++◌, ◌∷◌, ◌≡◌}
+use Rattle.std.specs.Prelude.{Bool, List, None, Some, [], false, true, ◌++◌, ◌∷◌, ◌≡◌, ◌⊎◌}
 use Rattle.tab_doors.specs.declared.tables.Tables.{Tables}
 use Rattle.tab_ids.specs.declared.ReqId.{ReqId}
 use Rattle.tab_ids.specs.declared.StateId.{StateId}
 use Rattle.tab_prompts.specs.Asking.{ArePrompts, BeginsAsked, told_of}
 use Rattle.tab_prompts.specs.Prompts.{is_waiting, prompts_for, waiting_among}
 use Rattle.tab_prompts.specs.Sparing.{new_notes, spares}
-use Rattle.tab_settles.specs.Held.{InHeld, IsClearedIn}
+use Rattle.tab_settles.specs.Held.{EndsRun, InHeld, IsClearedIn, NoneStray}
 use Rattle.tab_settles.specs.PassedOn.{InPass}
 use Rattle.tab_settles.specs.Settling.{HasPut, HasSettled, LeavesOff}
 use Rattle.tab_stands.specs.GoingOn.{GoesOn}
@@ -43,12 +43,14 @@ is_over checks.Stay = true
 abbrev pub goes_on : List (ReqId × OpenCheck) → ReqId → Bool
 goes_on table req = option_map_or is_over (outcome_at req table) false
 
--- the first part of a pass went by, of which the table was told, and by that the traversal's check is over
+-- the first part of a pass went by, of which the table was told, and by that the traversal's check is over; the run of discarded documents has ended, or no document is stray, and nothing is owed that later rows could undo, if that was so
 pub record GoesOnAfter (p : InPass) (was out : List RowKind) (t u : Tables) (queue : Queue) (blame : List (StateId × ReqId)) (cause : Why) (req : ReqId) : Type 0 where
   pub before : Tables
   pub cleared : IsClearedIn true p out before queue blame cause
   pub put : HasPut p.event was out
   pub off : LeavesOff p.event was out
+  pub ends : EndsRun out ⊎ NoneStray (now_of p.event out)
+  pub loose : IsLoose p.event was → IsLoose p.event out
   pub checks : before.checks ≡ t.checks
   pub told : u ≡ record before { checks = told_of t.checks out }
   pub over : goes_on u.checks req ≡ true

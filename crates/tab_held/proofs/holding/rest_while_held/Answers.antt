@@ -30,4 +30,4 @@ returns-clause-rests g c = λ waits.
 
 pub returns-clause-goes : goal.returns-clause-goes
 returns-clause-goes g c = λ goes.
-    goes_after g.h.pass _ _ _ _ _ _ g.h.queue _ _ _ c.in_ok-clear_held.ensures.checks c.in_ok-clear_held.ensures.cleared c.in_ok-clear_held.ensures.put c.in_ok-clear_held.ensures.off (c.in_ok-goes.ensures.stays goes) (c.in_ok-goes.ensures.told goes) (c.in_ok-goes.ensures.over goes)
+    goes_after g.h.pass _ _ _ _ _ _ g.h.queue _ _ _ c.in_ok-clear_held.ensures.checks c.in_ok-clear_held.ensures.cleared c.in_ok-clear_held.ensures.put c.in_ok-clear_held.ensures.off c.in_ok-clear_held.ensures.ends c.in_ok-clear_held.ensures.loose (c.in_ok-goes.ensures.stays goes) (c.in_ok-goes.ensures.told goes) (c.in_ok-goes.ensures.over goes)
