@@ -1,4 +1,4 @@
--- The table of checks was told where the walk of a pass waits, and the user was asked: the event is cut behind the prompts, and a pass may follow as before.
+-- The table of checks was told between the two parts of a pass, and the user was asked: the event is cut behind the prompts, and a pass may follow as before.
 use Rattle.asking_facts.specs.Standing.{StandsAsked}
 use Rattle.leave_facts.proofs.Carried.{AreLeftDuly, row_duly}
 use Rattle.log_model.specs.After.{after}

@@ -1,4 +1,4 @@
--- Where the walk of a pass waits, the table is told and the user is asked about each request that waited and is settled now: nobody in its check has passed, and a pass may follow, which reads the aim.
+-- Between the two parts of a pass the table is told and the user is asked about each request that waited and is settled now: nobody in its check has passed, and a pass may follow, which reads the aim.
 use Rattle.log_model.specs.Seen.{Asked, request_of}
 use Rattle.log_model.specs.Places.{is_traversal}
 use Rattle.log_model.specs.declared.job.Why.{Why}

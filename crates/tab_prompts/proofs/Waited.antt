@@ -1,4 +1,4 @@
--- Where the walk of a pass waits, the rows behind the prompts spare the documents for whose sake the user was asked: the run had ended, or no document is stray any more.
+-- Between the two parts of a pass the user was asked, and the rows behind the prompts spare the documents for whose sake the user was asked: the run had ended, or no document is stray any more.
 use Rattle.checking_facts.specs.Prompts.{Told, tell_for, tell_row, told_by}
 use Rattle.log_model.specs.Equal.{has_doc}
 use Rattle.log_model.specs.declared.job.Why.{Why}
