@@ -1,6 +1,5 @@
 -- A document that nothing needs as it is made may be discarded; nobody is awake on it.
 use Rattle.seen_laws.proofs.InEvents as events
-use Rattle.tab_doors.proofs.PassedOn.{sent_goes}
 use Rattle.seen_facts.proofs.Hang.Hung.{places_distinct}
 use Rattle.seen_facts.proofs.Hang.Members.{find_has, has_any}
 use Rattle.seen_facts.proofs.Hang.Targets.{IsTarget, target_has}
@@ -10,26 +9,20 @@ use Rattle.row_facts.proofs.LeaveRows.LeftMays.{unneeded_left_may}
 use Rattle.row_facts.specs.LeaveRows.Evicting.{IsUnneededDue, is_a_target, is_last}
 use Rattle.row_facts.specs.LeaveRows.Leaving.{is_for_one}
 use Rattle.log_model.proofs.Refl.{nat_eq_refl}
-use Rattle.log_model.specs.After.{after}
-use Rattle.log_model.specs.AfterPlaces.{sleepers_with, without_doc, woken_below}
+use Rattle.log_model.specs.AfterPlaces.{sleepers_with, woken_below}
 use Rattle.log_model.specs.Equal.{has_doc, holds}
 use Rattle.log_model.specs.History.{has_nav, has_state, target_entry}
 use Rattle.log_model.specs.Orders.{ongoing_load}
-use Rattle.log_model.specs.Places.{aim_of, all_stand, is_shown, shower_of, targets_state}
+use Rattle.log_model.specs.Places.{aim_of, is_shown, shower_of, targets_state}
 use Rattle.log_model.specs.Seen.{Asked, Document, Place, Seen, desk_of, document_of, place_of}
 use Rattle.log_model.specs.declared.job.Job.{Job}
 use Rattle.log_model.specs.declared.job.Why.{Why}
 use Rattle.log_model.specs.declared.row.Row.{Row}
 use Rattle.log_model.specs.declared.row_kind.RowKind.{RowKind}
 use Rattle.seen_facts.proofs.Mover.Orders.{MovesEach}
-use Rattle.row_facts.proofs.Owed.Ends.{loose_more}
-use Rattle.row_facts.proofs.Owed.Rows.{sent_lasts}
-use Rattle.row_facts.specs.Owed.Owed.{IsLoose}
-use Rattle.seen_facts.specs.Asked.Asking.{HavePassed}
-use Rattle.row_facts.specs.RestRows.Left.{left_below, shown_by}
 use Rattle.seen_laws.proofs.InEvents.{led_here}
 use Rattle.seen_laws.specs.InEvent.{here_of, later_of, now_of, row_of}
-use Rattle.std.proofs.Common.{Bool, List, None, Option, Some, [], ap, arith, false, inl, inr, length, filter, not, refl, subst, sym, true, ℕ, ◌&&◌, ◌++◌, ◌==◌, ◌||◌, ◌∙◌, ◌∷◌, ◌≡◌, ◌≤◌}
+use Rattle.std.proofs.Common.{Bool, List, None, Option, Some, [], ap, arith, false, inl, inr, refl, subst, sym, true, ℕ, ◌&&◌, ◌==◌, ◌||◌, ◌∙◌, ◌∷◌, ◌≡◌}
 use Rattle.std.proofs.lemmas.Bool.Decides.{nat_tests}
 use Rattle.std.specs.List.{list_any}
 use Rattle.std.specs.Option.{option_map_or}
@@ -38,30 +31,26 @@ use Rattle.tab_doors.proofs.Whose.{proc_found}
 use Rattle.tab_doors.proofs.Leavable.{IsLeftAs, discards_log, numbered_log, seen_at, unneeded_log}
 use Rattle.tab_doors.proofs.Works.{done_here, numbered, start_here}
 use Rattle.tab_doors.specs.Orders.{order_to, proc_at}
-use Rattle.tab_doors.specs.Working.{KeepsStore, MaySend}
+use Rattle.tab_doors.specs.Working.{MaySend}
 use Rattle.tab_doors.specs.declared.tables.Tables.{Tables}
 use Rattle.tab_ids.specs.declared.DocId.{DocId}
 use Rattle.tab_ids.specs.declared.NavId.{NavId}
 use Rattle.tab_ids.specs.declared.StateId.{StateId}
-use Rattle.tab_passes.proofs.Fews.{fewer as shorter}
 use Rattle.tab_passes.proofs.Goings.{none_to_begin}
 use Rattle.tab_passes.proofs.LeftFor.{off_for}
-use Rattle.tab_passes.proofs.Leavings.{leaving_none, passing_again}
+use Rattle.tab_passes.proofs.Leavings.{leaving_none}
 use Rattle.tab_passes.specs.Causes.{MayCause}
-use Rattle.tab_passes.specs.Leaving.{IsLeaving, MayLeave, left_then}
+use Rattle.tab_passes.specs.Leaving.{IsLeaving, MayLeave}
 use Rattle.tab_passes.specs.Passing.{InPass, IsPassing}
-use Rattle.tab_sweeps.proofs.Discards.{now_is}
 use Rattle.tab_sweeps.proofs.Sends.{IsAsked, is_asked}
 use Rattle.tab_sweeps.proofs.Theres.{stray_unknown}
 use Rattle.tab_sweeps.specs.Sweeping.{IsStray}
 use Rattle.tab_sweeps.specs.Unneeded.{IsUnneeded}
-use Rattle.row_facts.proofs.WalkRows.Needs.{sent_stood}
 use Rattle.row_facts.proofs.WalkRows.Sleeping.{IsShower, shower_is}
 use Rattle.log_model.specs.declared.job.Task.TheVariants as tasks
 use Rattle.log_model.specs.declared.made.Report.TheVariants as reports
 use Rattle.log_model.specs.declared.outcome.Outcome.TheVariants as outcomes
 use Rattle.log_model.specs.declared.job.Why.TheVariants as whys
-use Rattle.log_model.specs.declared.row_kind.RowKind.TheVariants as rows
 
 -- ---- a state without an entry
 
@@ -89,10 +78,6 @@ none_targets s state (place ∷ places) bare =
     neither : (a b : Bool) → b ≡ false → (a && b) ≡ false
     neither true b e = e
     neither false b e = refl
-
-shown_by_none : (places : List Place) → shown_by [] places ≡ []
-shown_by_none [] = refl
-shown_by_none (place ∷ places) = shown_by_none places
 
 number_found : (s : Seen) (doc : DocId) (d : Document) → document_of s doc ≡ Some d → d.nr.0 ≡ doc.0
 number_found s doc d found =
@@ -126,9 +111,6 @@ module _ (p : InPass) (out : List RowKind) (t : Tables) (passing : IsPassing p o
   distinct : AreDistinct s.places
   distinct = places_distinct s leaving.going.tab.sound leaving.going.tab.hangs
 
-  all_passed : HavePassed s
-  all_passed = leaving.going.tab.asked.passed
-
   -- ---- nobody is awake on it
 
   never_awake : (shower : Place) → shower_of s doc ≡ Some shower → ⊥
@@ -155,9 +137,6 @@ module _ (p : InPass) (out : List RowKind) (t : Tables) (passing : IsPassing p o
       by_shower : (o : Option Place) → shower_of s doc ≡ o → option_map_or (λ (place : Place). place.nav ∷ woken_below s place.nav) o [] ≡ []
       by_shower None found = refl
       by_shower (Some shower) found = absurd (never_awake shower found)
-
-  none_below : left_below s doc ≡ []
-  none_below = ap (λ (navs : List NavId). filter (λ (d : DocId). not (d.0 == doc.0)) (shown_by navs s.places)) nobody ∙ ap (λ (docs : List DocId). filter (λ (d : DocId). not (d.0 == doc.0)) docs) (shown_by_none s.places)
 
   -- ---- the order
 
@@ -204,30 +183,3 @@ module _ (p : InPass) (out : List RowKind) (t : Tables) (passing : IsPassing p o
   pub unneeded_sends : MaySend None p.event out discard
   unneeded_sends later ahead =
       unneeded_left_may (here_of p.event out) p.event.event p.event.actor (order_to s doc why tasks.Discard) left_as.d (led_here p.event out leaving.work.own) (numbered_log p.event out (events.now_is p.event out) (order_to s doc why tasks.Discard) (numbered s (proc_at s doc) doc why tasks.Discard (leaving.going.tab.asked.died (proc_at s doc)).0)) (unneeded_log p.event out t leaving.work (order_to s doc why tasks.Discard) stray.document left_as due) later (ahead.1, tt)
-
-  -- ---- the row was put out
-
-  abbrev then_ : Seen
-  then_ = after s (row_of p.event (rows.Sent discard))
-
-  module _ (new : List RowKind) (u : Tables) (is : new ≡ out ++ rows.Sent discard ∷ []) (keeps : KeepsStore t u) (left : IsLeaving p None (left_then s doc []) new u) where
-    then_is : then_ ≡ now_of p.event new
-    then_is = now_is p out t leaving doc state stray why new u is left
-
-    loose_then : all_stand then_ (aim_of then_) ≡ true → IsLoose p.event (out ++ rows.Sent discard ∷ [])
-    loose_then stand =
-        loose_more p.event out (rows.Sent discard) (sent_goes p.event out discard refl).read (passing.loose (sent_stood s p.event.event p.event.actor discard all_passed tt stand)) (sent_lasts s p.event.event p.event.actor discard) (λ end lasts. refl)
-
-    few_then : length then_.kept ≤ u.kept.keep
-    few_then =
-        let less : length (without_doc doc s.kept) ≤ length s.kept = shorter (λ (d : DocId). not (d.0 == doc.0)) s.kept in
-        let low : length s.kept ≤ t.kept.keep = passing.few in
-        let same : u.kept.keep ≡ t.kept.keep = keeps.keep in
-        let all : length (without_doc doc s.kept) ≤ u.kept.keep = omega (arith, less, low, same) in
-        all
-
-    pub unneeded_passing : IsPassing p new u
-    unneeded_passing =
-        passing_again p new u (subst (λ (l : List DocId). IsLeaving p None l new u) (ap (λ (l : List DocId). l ++ []) none_below) left)
-        (λ stand. subst (λ (l : List RowKind). IsLoose p.event l) (sym is) (loose_then (subst (λ (x : Seen). all_stand x (aim_of x) ≡ true) (sym then_is) stand)))
-        (subst (λ (x : Seen). length x.kept ≤ u.kept.keep) then_is few_then)

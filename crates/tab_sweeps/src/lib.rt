@@ -3,7 +3,5 @@
 
 mod strays;
 mod sweeping;
-mod unneeded;
 
 pub use sweeping::sweep;
-pub use unneeded::discard_unneeded;
