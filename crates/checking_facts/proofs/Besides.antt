@@ -39,14 +39,14 @@ and_false : (b : Bool) → (b && false) ≡ false
 and_false true = refl
 and_false false = refl
 
--- ---- what it ends isn't in its check
+-- ---- what it refuses isn't in its check
 
 pub beside_ends : (checking : ReqId → Bool) (s : Seen) (kind : RowKind) → GoesBeside checking s kind → EndsOff checking kind
 beside_ends checking s (rows.Sent job) beside = tt
 beside_ends checking s (rows.Started req goal) beside = tt
 beside_ends checking s (rows.Applied req change) beside = tt
 beside_ends checking s (rows.Refused req reason) beside = beside.0
-beside_ends checking s (rows.Dropped req cause) beside = beside
+beside_ends checking s (rows.Dropped req cause) beside = tt
 beside_ends checking s _ never = absurd never
 
 -- so it is of all rows, with one more

@@ -102,13 +102,13 @@ GoesBeside checking s (rows.Dropped req cause) = checking req ≡ false
 GoesBeside checking s (rows.Sent job) = SendsBeside checking s job job.task
 GoesBeside checking s _ = ⊥
 
--- a row of a coordinator that ends no request in its check
+-- a row of a coordinator that refuses no request in its check, though it may drop one
 abbrev pub EndsOff : (ReqId → Bool) → RowKind → Type 0
 EndsOff checking (rows.Sent job) = Unit {0}
 EndsOff checking (rows.Started req goal) = Unit {0}
 EndsOff checking (rows.Applied req change) = Unit {0}
 EndsOff checking (rows.Refused req reason) = checking req ≡ false
-EndsOff checking (rows.Dropped req cause) = checking req ≡ false
+EndsOff checking (rows.Dropped req cause) = Unit {0}
 EndsOff checking _ = ⊥
 
 -- each of these is one

@@ -109,7 +109,7 @@ pub record IsAtWorkIn (sweeps : Bool) (move : Option Move) (e : InEvent) (out : 
   pub checks : AreInCheck e.checking (log_of e out)
   pub calm : IsCalmIn sweeps e.checking (log_of e out)
   pub unheld : NoStepChecks e.checking (log_of e []) → NoStepChecks e.checking (log_of e out)
-  -- none of the rows ends a request in its check
+  -- none of the rows refuses a request in its check; one may be dropped in it
   pub off : EachEndsOff e.checking out
   pub holds : Holds (look_now e out t.running) t
   pub runs : IsRunning (now_of e out).requests t.running

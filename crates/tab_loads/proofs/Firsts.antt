@@ -16,7 +16,7 @@ use Rattle.seen_facts.proofs.Request.Times.{itself, times_none}
 use Rattle.seen_facts.specs.Request.Whereabouts.{is_of_load}
 use Rattle.seen_laws.specs.Blocks.{Here, point_at}
 use Rattle.seen_laws.specs.InEvent.{InEvent, here_of, log_of, now_of, row_of, seen_here}
-use Rattle.std.proofs.Common.{List, None, Option, Some, [], ap, arith, cond, false, length, refl, subst, sym, true, ℕ, ◌==◌, ◌∙◌, ◌∷◌, ◌≡◌}
+use Rattle.std.proofs.Common.{List, None, Option, Some, [], ap, arith, false, length, refl, subst, sym, true, ℕ, ◌∙◌, ◌∷◌, ◌≡◌}
 use Rattle.std.proofs.lemmas.Bool.Decides.{nat_tests}
 use Rattle.std.specs.Prelude.{nat_lt}
 use Rattle.tab_doors.specs.Keeping.{IsNoLoad}

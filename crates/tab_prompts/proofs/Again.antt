@@ -29,7 +29,7 @@ use Rattle.tab_prompts.proofs.Settled.{IsNotedFor, cut_calm, cut_stands, prompts
 use Rattle.tab_prompts.proofs.Since.{finished_since, no_question, rows_keep}
 use Rattle.tab_prompts.proofs.Tables.{GoesAt, goes_told}
 use Rattle.tab_prompts.proofs.Works.{prompts_are, prompts_keep}
-use Rattle.tab_prompts.specs.Asking.{AreApart, BeginsAsked, BeginsMost, WasOpen, are_unheard}
+use Rattle.tab_prompts.specs.Asking.{AreAllWaiting, AreApart, AreUnderWay, BeginsAsked, BeginsMost, WasOpen, are_unheard}
 use Rattle.tab_prompts.specs.Prompts.{is_settled_in, is_waiting}
 use Rattle.unload_check.specs.Checks.{OpenCheck, check_of}
 
@@ -75,7 +75,7 @@ module _ (first : Seen) (e : InEvent) where
 
 -- ---- the cut
 
-module _ {sweeps : Bool} (move : Option Move) (e : InEvent) (out : List RowKind) (t : Tables) (work : IsAtWorkIn sweeps move e out t) (begins : BeginsAsked e t.checks) (waited : List ReqId) (apart : AreApart waited) (waits : (req : ReqId) → Has waited req → is_waiting t.checks req ≡ true) where
+module _ {sweeps : Bool} (move : Option Move) (e : InEvent) (out : List RowKind) (t : Tables) (work : IsAtWorkIn sweeps move e out t) (begins : BeginsAsked e t.checks) (waited : List ReqId) (apart : AreApart waited) (waits : (req : ReqId) → Has waited req → is_waiting t.checks req ≡ true) (go : AreUnderWay (log_of e out) waited) where
   abbrev first : Seen
   first = log_of e []
 
@@ -83,10 +83,10 @@ module _ {sweeps : Bool} (move : Option Move) (e : InEvent) (out : List RowKind)
   told_then = then_told move e out t work begins
 
   abbrev asking : List RowKind
-  asking = prompts move e out t work begins waited apart waits
+  asking = prompts move e out t work begins waited apart waits go
 
   abbrev pub cut_then : InEvent
-  cut_then = then_ move e out t work begins waited apart waits
+  cut_then = then_ move e out t work begins waited apart waits go
 
   abbrev last : Seen
   last = log_of e (out ++ asking)
@@ -138,7 +138,7 @@ module _ {sweeps : Bool} (move : Option Move) (e : InEvent) (out : List RowKind)
   -- so the event goes on as one that began, whoever has passed
   pub begins_most : BeginsMost cut_then told_then
   begins_most =
-      let stands = cut_stands move e out t work begins waited apart waits in
+      let stands = cut_stands move e out t work begins waited apart waits go in
       record {
         asked = stands.asked;
         notes = stands.notes;
@@ -149,11 +149,11 @@ module _ {sweeps : Bool} (move : Option Move) (e : InEvent) (out : List RowKind)
       }
 
   -- and in full, where no traversal goes on
-  pub begins_again : ((req : ReqId) (q : Asked) → request_of (log_of cut_then []) req ≡ Some q → is_traversal q.what ≡ true → is_waiting t.checks req ≡ true → Has waited req) → ((req : ReqId) (q : Asked) → request_of (log_of cut_then []) req ≡ Some q → is_traversal q.what ≡ true → Has waited req → is_settled_in told_then req ≡ true → IsNotedFor told_then req) → BeginsAsked cut_then told_then
+  pub begins_again : AreAllWaiting (log_of cut_then []) t.checks waited → ((req : ReqId) (q : Asked) → request_of (log_of cut_then []) req ≡ Some q → is_traversal q.what ≡ true → Has waited req → is_settled_in told_then req ≡ true → IsNotedFor told_then req) → BeginsAsked cut_then told_then
   begins_again all noted =
       record {
         asked = begins_most.asked;
-        calm = cut_calm move e out t work begins waited apart waits all noted;
+        calm = cut_calm move e out t work begins waited apart waits go all noted;
         notes = begins_most.notes;
         unanswered = begins_most.unanswered;
         opens = begins_most.opens;

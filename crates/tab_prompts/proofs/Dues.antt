@@ -1,16 +1,15 @@
--- Of a request that waited as the event began or was cut, and for which the told table notes a prompt, the user is to be asked.
+-- Of a request that waited as the event began or was cut, is under way still, and for which the told table notes a prompt, the user is to be asked.
 use Rattle.asking_facts.proofs.Started.{rows_on}
 use Rattle.check_facts.specs.Checking.{AreTiedAt}
 use Rattle.check_facts.specs.Having.{IsHeld}
 use Rattle.check_facts.specs.Prompting.{has_settled, is_asked, todo_of}
-use Rattle.log_model.specs.Checks.{is_checked}
-use Rattle.log_model.specs.Places.{all_asked, has_passed, is_gone, is_settled_asking, is_under_way}
+use Rattle.log_model.specs.Places.{all_asked, is_gone, is_settled_asking, is_under_way}
 use Rattle.log_model.specs.Seen.{Asked, Asking, Seen, request_of}
 use Rattle.log_model.specs.declared.row_kind.RowKind.{RowKind}
 use Rattle.seen_facts.specs.Hang.Members.{Has}
 use Rattle.seen_laws.specs.Blocks.{Here, on_row, on_rows}
 use Rattle.seen_laws.specs.InEvent.{InEvent, first_of, log_of, row_of}
-use Rattle.std.proofs.Common.{Bool, List, None, Option, Some, [], ap, false, inl, inr, map, not, refl, subst, sym, true, ◌&&◌, ◌∙◌, ◌∷◌, ◌≡◌, ◌⊎◌}
+use Rattle.std.proofs.Common.{Bool, List, None, Option, Some, [], ap, false, inl, inr, map, refl, subst, sym, true, ◌∙◌, ◌∷◌, ◌≡◌, ◌⊎◌}
 use Rattle.std.proofs.lemmas.Bool.{and_parts}
 use Rattle.std.specs.List.{list_all}
 use Rattle.std.specs.Option.{option_map_or}
@@ -23,7 +22,7 @@ use Rattle.tab_ids.specs.declared.ReqId.{ReqId}
 use Rattle.tab_prompts.proofs.Since.{Course, course_of}
 use Rattle.tab_prompts.proofs.Tables.{wants_in}
 use Rattle.tab_prompts.proofs.Told.{IsNoted, first_open, held_now, heard_wanted, noted, said_now, tied_is, tied_open, tied_settled, told, was}
-use Rattle.tab_prompts.specs.Asking.{BeginsAsked, EachIsDue, IsPromptDue, WasOpen, are_unheard}
+use Rattle.tab_prompts.specs.Asking.{AreUnderWay, BeginsAsked, EachIsDue, IsPromptDue, IsUnderWay, WasOpen, are_unheard}
 use Rattle.tab_prompts.specs.Prompts.{is_open, is_waiting}
 use Rattle.unload_check.specs.Checks as table
 use Rattle.unload_check.specs.Checks.{OpenCheck, check_of, is_settled, outcome_of}
@@ -76,7 +75,7 @@ module _ {sweeps : Bool} (move : Option Move) (e : InEvent) (out : List RowKind)
   abbrev then_told : List (ReqId × OpenCheck)
   then_told = told move e out t work begins
 
-  module _ (req : ReqId) (doc : DocId) (waits : is_waiting t.checks req ≡ true) (notes : todo_of then_told req ≡ Some doc) where
+  module _ (req : ReqId) (doc : DocId) (waits : is_waiting t.checks req ≡ true) (goes : IsUnderWay now req) (notes : todo_of then_told req ≡ Some doc) where
     abbrev Noted : Type 0
     Noted = IsNoted move e out t work begins req doc
 
@@ -102,7 +101,7 @@ module _ {sweeps : Bool} (move : Option Move) (e : InEvent) (out : List RowKind)
     abbrev q : Asked
     q = still.0
 
-    p_was : (p : Asked) × (request_of first req ≡ Some p) × (course_of p ≡ course_of q)
+    p_was : (p : Asked) × (request_of first req ≡ Some p) × (course_of p ≡ course_of q) × (is_under_way q ≡ true → is_under_way p ≡ true)
     p_was = was move e out t work begins req q still.1 its.on
 
     abbrev p : Asked
@@ -162,12 +161,6 @@ module _ {sweeps : Bool} (move : Option Move) (e : InEvent) (out : List RowKind)
     unprompted : is_some q.prompted ≡ false
     unprompted = sym (ap (λ (x : Course). is_some x.prompted) same) ∙ unprompted_then
 
-    runs : is_under_way q ≡ true
-    runs =
-        let parts = and_parts (is_checked p && is_under_way p) (not (has_passed first p)) tied.0 in
-        let both = and_parts (is_checked p) (is_under_way p) parts.0 in
-        sym (ap (λ (x : Course). x.is_under_way) same) ∙ both.1
-
     pub prompt_due : IsPromptDue e.checking e.start now then_told req doc
     prompt_due =
         record {
@@ -175,7 +168,7 @@ module _ {sweeps : Bool} (move : Option Move) (e : InEvent) (out : List RowKind)
           at = still.1;
           ready = record {
             checked = (work.checks.checks req q still.1 its.on).checked;
-            under = runs;
+            under = goes q still.1;
             unanswered = sym (ap (λ (x : Course). x.answered) same) ∙ begins.unanswered req p p_was.1 unprompted_then;
           };
           due = record {
@@ -191,6 +184,6 @@ module _ {sweeps : Bool} (move : Option Move) (e : InEvent) (out : List RowKind)
           on = its.on;
         }
 
-  -- so it is for each of those that waited
-  pub each_due : (reqs : List ReqId) → ((req : ReqId) → Has reqs req → is_waiting t.checks req ≡ true) → EachIsDue e.checking e.start now then_told reqs
-  each_due reqs waits req doc has notes = prompt_due req doc (waits req has) notes
+  -- so it is for each of those that waited, and are under way
+  pub each_due : (reqs : List ReqId) → ((req : ReqId) → Has reqs req → is_waiting t.checks req ≡ true) → AreUnderWay now reqs → EachIsDue e.checking e.start now then_told reqs
+  each_due reqs waits go req doc has notes = prompt_due req doc (waits req has) (go req has) notes

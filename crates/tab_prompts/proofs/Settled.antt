@@ -1,4 +1,4 @@
--- Where documents were swept the table is told, and the user is asked for each request that waited and is settled now, as the table notes it. The event is cut behind these rows, of what comes after it is wanted that it spares the documents for whose sake the user was asked while their run lasts, and where each such request was asked about nobody in its check has passed.
+-- Where documents were swept the table is told, and the user is asked for each request that waited, is under way and is settled now, as the table notes it. The event is cut behind these rows, of what comes after it is wanted that it spares the documents for whose sake the user was asked while their run lasts, and where each such request was asked about nobody in its check has passed.
 use Rattle.log_model.specs.Seen.{Asked, request_of}
 use Rattle.log_model.specs.Places.{is_traversal}
 use Rattle.asking_facts.proofs.Standing.{stands_less, stands_same, stands_wanting}
@@ -30,7 +30,7 @@ use Rattle.tab_prompts.proofs.Sparing.{agrees_spared, new_none, spares_any}
 use Rattle.tab_prompts.proofs.Since.{finished_since}
 use Rattle.tab_prompts.proofs.Told.{ran, told, told_asked}
 use Rattle.tab_prompts.proofs.Works.{prompts_are, work_prompted}
-use Rattle.tab_prompts.specs.Asking.{AreApart, BeginsAsked, left_of, without}
+use Rattle.tab_prompts.specs.Asking.{AreAllWaiting, AreApart, AreUnderWay, BeginsAsked, left_of, without}
 use Rattle.tab_prompts.specs.Sparing.{new_notes, spares}
 use Rattle.tab_prompts.specs.Prompts.{is_settled_in, is_settled_since, is_waiting, prompts_for}
 use Rattle.unasked_dues.specs.Checking.{NonePasses}
@@ -122,7 +122,7 @@ module _ {sweeps : Bool} (move : Option Move) (e : InEvent) (out : List RowKind)
       by_move None is = tt
       by_move (Some m) is = is
 
-  module _ (waited : List ReqId) (apart : AreApart waited) (waits : (req : ReqId) → Has waited req → is_waiting t.checks req ≡ true) where
+  module _ (waited : List ReqId) (apart : AreApart waited) (waits : (req : ReqId) → Has waited req → is_waiting t.checks req ≡ true) (go : AreUnderWay (log_of e out) waited) where
     abbrev pub prompts : List RowKind
     prompts = prompts_for then_told waited
 
@@ -132,7 +132,7 @@ module _ {sweeps : Bool} (move : Option Move) (e : InEvent) (out : List RowKind)
 
     pub settled_stands : StandsAsked (Agreed (todo_of then_told) its_run e (out ++ prompts) (IsToCome move e (out ++ prompts))) left e (out ++ prompts) (record { checks = then_told; run = [] })
     settled_stands =
-        stands_prompted e then_told its_run (IsToCome move e) work.own ahead_on (is_settled_since t.checks then_told) out waited apart (each_due move e out t work begins waited waits) (told_asked move e out t work begins)
+        stands_prompted e then_told its_run (IsToCome move e) work.own ahead_on (is_settled_since t.checks then_told) out waited apart (each_due move e out t work begins waited waits go) (told_asked move e out t work begins)
 
     -- ---- the event is cut behind them: what comes later is to spare the documents of what was noted for the run that lasts
 
@@ -156,10 +156,10 @@ module _ {sweeps : Bool} (move : Option Move) (e : InEvent) (out : List RowKind)
         (stands_same (IsToCome move then_ []) left e (out ++ prompts) (record { checks = then_told; run = [] }) (owes_seen e out)
         (stands_less (Agreed (todo_of then_told) its_run e (out ++ prompts) (IsToCome move e (out ++ prompts))) (IsToCome move then_ []) left e (out ++ prompts) (record { checks = then_told; run = [] }) agrees settled_stands))
 
-    -- where all traversals that waited are among these, and none of them goes on, nobody has passed
-    pub cut_calm : ((req : ReqId) (q : Asked) → request_of (log_of then_ []) req ≡ Some q → is_traversal q.what ≡ true → is_waiting t.checks req ≡ true → Has waited req) → ((req : ReqId) (q : Asked) → request_of (log_of then_ []) req ≡ Some q → is_traversal q.what ≡ true → Has waited req → is_settled_in then_told req ≡ true → IsNotedFor then_told req) → NonePasses e.checking (log_of then_ [])
+    -- where all traversals that waited and are under way are among these, and none of them goes on, nobody has passed
+    pub cut_calm : AreAllWaiting (log_of then_ []) t.checks waited → ((req : ReqId) (q : Asked) → request_of (log_of then_ []) req ≡ Some q → is_traversal q.what ≡ true → Has waited req → is_settled_in then_told req ≡ true → IsNotedFor then_told req) → NonePasses e.checking (log_of then_ [])
     cut_calm all noted req q at runs goes on =
-        cut_stands.none req q at runs goes on (left_none then_told waited (is_settled_since t.checks then_told) req (λ is. (let parts = and_parts (is_waiting t.checks req) (is_settled_in then_told req) is in let has = all req q at goes parts.0 in (has, noted req q at goes has parts.1))))
+        cut_stands.none req q at runs goes on (left_none then_told waited (is_settled_since t.checks then_told) req (λ is. (let parts = and_parts (is_waiting t.checks req) (is_settled_in then_told req) is in let has = all req q at goes runs parts.0 in (has, noted req q at goes has parts.1))))
 
     -- the coordinator goes on
     pub cut_works : {then_sweeps : Bool} → IsCalmIn then_sweeps e.checking (log_of then_ []) → IsAtWorkIn then_sweeps move then_ [] (record t { checks = then_told })

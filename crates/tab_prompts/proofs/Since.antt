@@ -1,4 +1,4 @@
--- A request in its check is read as it was where the event began or was cut: by rows of a coordinator it is asked nothing more, isn't prompted, and doesn't end.
+-- A request in its check is read as it was where the event began or was cut: by rows of a coordinator it is asked nothing more, and isn't prompted; it may be dropped, so one that is under way was so then.
 use Rattle.checking_facts.specs.Prompts.{EndsOff}
 use Rattle.check_facts.proofs.Rows.{IsUnmoved, sent_same}
 use Rattle.check_facts.specs.Rows.{IsNoQuestion}
@@ -9,6 +9,7 @@ use Rattle.log_model.specs.Seen.{Asked, Asking, Document, Seen, document_of, req
 use Rattle.log_model.specs.declared.job.Job.{Job}
 use Rattle.log_model.specs.declared.job.Task.TheVariants as tasks
 use Rattle.log_model.specs.declared.job.Task.{Task}
+use Rattle.log_model.specs.declared.outcome.Cause.{Cause}
 use Rattle.log_model.specs.declared.outcome.Ending.TheVariants as endings
 use Rattle.log_model.specs.declared.request.Request.{Request}
 use Rattle.log_model.specs.declared.row_kind.RowKind.TheVariants as rows
@@ -22,7 +23,7 @@ use Rattle.seen_laws.proofs.InEvents.{first_goes, rest_goes}
 use Rattle.seen_laws.specs.Blocks.{Here, on_row, on_rows}
 use Rattle.seen_laws.specs.InEvent.{EachGoes, InEvent, first_of, is_seen, log_of, row_of}
 use Rattle.seen_laws.specs.Unasked.{is_question}
-use Rattle.std.proofs.Common.{Bool, List, None, Option, Some, [], ap, false, inl, inr, map, not, refl, sym, true, ◌++◌, ◌∙◌, ◌∷◌, ◌≡◌}
+use Rattle.std.proofs.Common.{Bool, List, None, Option, Some, [], ap, false, inl, inr, map, not, refl, sym, true, ◌&&◌, ◌++◌, ◌∙◌, ◌∷◌, ◌≡◌}
 use Rattle.tab_ids.specs.declared.DocId.{DocId}
 use Rattle.tab_ids.specs.declared.ReqId.{ReqId}
 
@@ -31,31 +32,37 @@ use Rattle.tab_ids.specs.declared.ReqId.{ReqId}
 pub record Course : Type 0 where
   pub nr : ReqId
   pub what : Request
-  pub is_under_way : Bool
   pub asks : List Asking
   pub prompted : Option DocId
   pub answered : Option Bool
 
 abbrev pub course_of : Asked → Course
-course_of q =
-    record { nr = q.nr; what = q.what; is_under_way = is_under_way q; asks = q.asks; prompted = q.prompted; answered = q.answered }
+course_of q = record { nr = q.nr; what = q.what; asks = q.asks; prompted = q.prompted; answered = q.answered }
+
+-- and whether it is under way
+record Way : Type 0 where
+  course : Course
+  runs : Bool
+
+abbrev way_of : Asked → Way
+way_of q = record { course = course_of q; runs = is_under_way q }
 
 -- an order that is no question reads none of it
-course_moves : (s : Seen) (job : Job) (task : Task) (q : Asked) → IsNoQuestion task → course_of (request_served s job task q) ≡ course_of q
-course_moves s job (tasks.Activate entry epoch length index memo address) q none = by_document (document_of s job.doc) refl
+way_moves : (s : Seen) (job : Job) (task : Task) (q : Asked) → IsNoQuestion task → way_of (request_served s job task q) ≡ way_of q
+way_moves s job (tasks.Activate entry epoch length index memo address) q none = by_document (document_of s job.doc) refl
   where
-    by_document : (o : Option Document) → document_of s job.doc ≡ o → course_of (request_served s job (tasks.Activate entry epoch length index memo address) q) ≡ course_of q
+    by_document : (o : Option Document) → document_of s job.doc ≡ o → way_of (request_served s job (tasks.Activate entry epoch length index memo address) q) ≡ way_of q
     by_document None e = rw e refl
     by_document (Some d) e = rw e refl
-course_moves s job tasks.Freeze q none = refl
-course_moves s job tasks.Discard q none = refl
-course_moves s job (tasks.Ask slot cause) q none = absurd none
-course_moves s job (tasks.Populate nav state address initial) q none = refl
-course_moves s job (tasks.Update length index) q none = refl
-course_moves s job (tasks.DoFragment req mode address) q none = refl
+way_moves s job tasks.Freeze q none = refl
+way_moves s job tasks.Discard q none = refl
+way_moves s job (tasks.Ask slot cause) q none = absurd none
+way_moves s job (tasks.Populate nav state address initial) q none = refl
+way_moves s job (tasks.Update length index) q none = refl
+way_moves s job (tasks.DoFragment req mode address) q none = refl
 
-unmoved : IsUnmoved course_of
-unmoved = record { moves = course_moves; fragments = λ q doc. refl }
+unmoved : IsUnmoved way_of
+unmoved = record { moves = way_moves; fragments = λ q doc. refl }
 
 pub no_question : (task : Task) → not (is_question task) ≡ true → IsNoQuestion task
 no_question (tasks.Ask slot cause) is = absurd cc
@@ -73,25 +80,35 @@ off_of true is = absurd cc
 -- ---- one row
 
 module _ (checking : ReqId → Bool) (old : List Asked) where
-  -- a request in its check was one of these, and is read as it was
+  -- a request in its check was one of these, and is read as it was; and if it is under way, it was so then
   abbrev pub WasSo : ReqId → Asked → Type 0
-  WasSo req q = checking req ≡ true → (p : Asked) × (request_in old req ≡ Some p) × (course_of p ≡ course_of q)
+  WasSo req q =
+      checking req ≡ true → (p : Asked) × (request_in old req ≡ Some p) × (course_of p ≡ course_of q) × (is_under_way q ≡ true → is_under_way p ≡ true)
 
   -- a change of which nothing is read
-  so_read : (mid new : List Asked) → EachAsked WasSo mid → SameReads course_of mid new → EachAsked WasSo new
+  so_read : (mid new : List Asked) → EachAsked WasSo mid → SameReads way_of mid new → EachAsked WasSo new
   so_read mid new each same r q at on =
-      let m = was_asked course_of mid new same r q at in
+      let m = was_asked way_of mid new same r q at in
       let p = each r m.0 m.1 on in
-      (p.0, p.1, p.2 ∙ m.2)
+      (p.0, p.1, p.2 ∙ ap (λ (x : Way). x.course) m.2, λ runs. p.3 (ap (λ (x : Way). x.runs) m.2 ∙ runs))
 
   -- a change of one that isn't in its check
   so_off : (mid : List Asked) (req : ReqId) (f : Asked → Asked) → checking req ≡ false → EachAsked WasSo mid → EachAsked WasSo (on_request req f mid)
   so_off mid req f off =
       each_asked_on WasSo WasSo mid req f (λ r q apart was. was) (λ q at was on. (let never : true ≡ false = sym on ∙ off in absurd cc))
 
+  -- one that is dropped isn't under way any more
+  so_dropped : (mid : List Asked) (req : ReqId) (cause : Cause) → EachAsked WasSo mid → EachAsked WasSo (on_request req (λ q. record q { ending = Some (endings.Dropped cause) }) mid)
+  so_dropped mid req cause =
+      each_asked_on WasSo WasSo mid req (λ q. record q { ending = Some (endings.Dropped cause) }) (λ r q apart was. was) (λ q at was on. (let p = was on in (p.0, p.1, p.2, λ runs. stopped q.is_started runs)))
+    where
+      stopped : {A : Type 0} (b : Bool) → (b && false) ≡ true → A
+      stopped true is = absurd cc
+      stopped false is = absurd cc
+
   so_row : (e : InEvent) (s : Seen) (kind : RowKind) → is_seen checking kind ≡ true → EndsOff checking kind → EachAsked WasSo s.requests → EachAsked WasSo (after s (row_of e kind)).requests
   so_row e s (rows.Sent job) seen ends each =
-      so_read s.requests (after s (row_of e (rows.Sent job))).requests each (sent_same course_of unmoved s job job.task s.requests (no_question job.task seen))
+      so_read s.requests (after s (row_of e (rows.Sent job))).requests each (sent_same way_of unmoved s job job.task s.requests (no_question job.task seen))
   so_row e s (rows.Started req goal) seen ends each =
       so_off (on_request req (λ q. record q { is_started = true; goal = goal }) s.requests) req (request_begun s) (off_of (checking req) seen) (so_off s.requests req (λ q. record q { is_started = true; goal = goal }) (off_of (checking req) seen) each)
   so_row e s (rows.Applied req change) seen ends each =
@@ -101,8 +118,7 @@ module _ (checking : ReqId → Bool) (old : List Asked) where
       off = off_of (checking req) seen
   so_row e s (rows.Refused req reason) seen ends each =
       so_off s.requests req (λ q. record q { ending = Some (endings.Refused reason) }) ends each
-  so_row e s (rows.Dropped req cause) seen ends each =
-      so_off s.requests req (λ q. record q { ending = Some (endings.Dropped cause) }) ends each
+  so_row e s (rows.Dropped req cause) seen ends each = so_dropped s.requests req cause each
   so_row e s _ seen never each = absurd never
 
   -- ---- rows one after the other
@@ -116,7 +132,7 @@ module _ (checking : ReqId → Bool) (old : List Asked) where
 
 pub so_since : (e : InEvent) (out : List RowKind) → EachGoes e [] out → ((row : RowKind) → Has out row → EndsOff e.checking row) → EachAsked (WasSo e.checking (log_of e []).requests) (log_of e out).requests
 so_since e out goes ends =
-    so_rows e.checking (log_of e []).requests e [] out (first_of e) refl goes ends (λ r q at on. (q, at, refl))
+    so_rows e.checking (log_of e []).requests e [] out (first_of e) refl goes ends (λ r q at on. (q, at, refl, λ runs. runs))
 
 -- ---- what each row of a coordinator keeps stays
 

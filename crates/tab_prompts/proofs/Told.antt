@@ -126,7 +126,8 @@ module _ {sweeps : Bool} (move : Option Move) (e : InEvent) (out : List RowKind)
 
   -- a request in its check, as the event began or was cut
   abbrev Was : ReqId → Asked → Type 0
-  Was req q = (p : Asked) × (request_of first req ≡ Some p) × (course_of p ≡ course_of q)
+  Was req q =
+      (p : Asked) × (request_of first req ≡ Some p) × (course_of p ≡ course_of q) × (is_under_way q ≡ true → is_under_way p ≡ true)
 
   pub was : (req : ReqId) (q : Asked) → request_of now req ≡ Some q → e.checking req ≡ true → Was req q
   was = so_since e out work.goes work.off
@@ -175,7 +176,7 @@ module _ {sweeps : Bool} (move : Option Move) (e : InEvent) (out : List RowKind)
     p = was req q at on
 
     p_runs : is_under_way (p.0) ≡ true
-    p_runs = ap (λ (x : Course). x.is_under_way) p.2 ∙ runs
+    p_runs = p.3 runs
 
     p_goes : is_traversal (p.0).what ≡ true
     p_goes = ap (λ (x : Course). is_traversal x.what) p.2 ∙ goes

@@ -5,7 +5,7 @@ use Rattle.log_model.specs.declared.job.Why.{Why}
 use Rattle.log_model.specs.declared.row_kind.RowKind.{RowKind}
 use Rattle.move_queue.specs.Queue.{Queue}
 use Rattle.seen_facts.specs.Hang.Members.{Has}
-use Rattle.seen_laws.specs.InEvent.{EndAsWanted, now_of, row_of}
+use Rattle.seen_laws.specs.InEvent.{EndAsWanted, log_of, now_of, row_of}
 use Rattle.std.proofs.Common.{Bool, List, None, Option, [], ap, inl, inr, map, subst, sym, true, false, ◌++◌, ◌∙◌, ◌∷◌, ◌≡◌, ◌⊎◌}
 use Rattle.std.proofs.lemmas.List.Sums.{fold-append}
 use Rattle.std.specs.Option.{option_map_or}
@@ -17,7 +17,7 @@ use Rattle.tab_prompts.proofs.Resumed.{its_finished, its_pass, its_prompts, its_
 use Rattle.tab_prompts.proofs.Settled.{ends_then, spared_ended}
 use Rattle.tab_prompts.proofs.Sparing.{spares_put}
 use Rattle.tab_prompts.proofs.Works.{prompts_are, same_prompted}
-use Rattle.tab_prompts.specs.Asking.{AreApart, BeginsAsked}
+use Rattle.tab_prompts.specs.Asking.{AreApart, AreUnderWay, BeginsAsked}
 use Rattle.tab_prompts.specs.Prompts.{is_waiting}
 use Rattle.tab_prompts.specs.Sparing.{spares}
 use Rattle.tab_serves.specs.Serving.{DiscardsNone}
@@ -33,24 +33,24 @@ ended_run checks out ends =
     ∙ ap (λ (told : Told). told.run) (fold-append tell_row (record { checks = checks; run = [] }) ends.before (ends.last ∷ []))
     ∙ ap (λ (o : Option DocId). (tell_for (told_by checks ends.before) o).run) ends.none
 
-module _ {sweeps : Bool} (p : InPass) (out : List RowKind) (t : Tables) (queue : Queue) (blame : List (StateId × ReqId)) (cause : Why) (ready : IsReadyIn sweeps p out t queue blame cause) (begins : BeginsAsked p.event t.checks) (waited : List ReqId) (apart : AreApart waited) (waits : (req : ReqId) → Has waited req → is_waiting t.checks req ≡ true) where
+module _ {sweeps : Bool} (p : InPass) (out : List RowKind) (t : Tables) (queue : Queue) (blame : List (StateId × ReqId)) (cause : Why) (ready : IsReadyIn sweeps p out t queue blame cause) (begins : BeginsAsked p.event t.checks) (waited : List ReqId) (apart : AreApart waited) (waits : (req : ReqId) → Has waited req → is_waiting t.checks req ≡ true) (go : AreUnderWay (log_of p.event out) waited) where
   abbrev then_ : InPass
-  then_ = its_pass p out t queue blame cause ready begins waited apart waits
+  then_ = its_pass p out t queue blame cause ready begins waited apart waits go
 
   abbrev asked : List RowKind
-  asked = its_prompts p out t queue blame cause ready begins waited apart waits
+  asked = its_prompts p out t queue blame cause ready begins waited apart waits go
 
   abbrev wanted : List DocId
-  wanted = its_spared p out t queue blame cause ready begins waited apart waits
+  wanted = its_spared p out t queue blame cause ready begins waited apart waits go
 
   -- no document is stray then still
   none_then : NoneStray (now_of p.event out) → NoneStray (now_of then_.event [])
-  none_then none = subst NoneStray (sym (same_prompted p.event out asked (prompts_are (its_table p out t queue blame cause ready begins waited apart waits) waited) (its_finished p out t queue blame cause ready begins waited apart waits) (spares wanted))) none
+  none_then none = subst NoneStray (sym (same_prompted p.event out asked (prompts_are (its_table p out t queue blame cause ready begins waited apart waits go) waited) (its_finished p out t queue blame cause ready begins waited apart waits go) (spares wanted))) none
 
   -- so what follows spares those documents, if it discards none where none is stray
   pub spared_then : EndsRun out ⊎ NoneStray (now_of p.event out) → (more : List RowKind) → (NoneStray (now_of then_.event []) → HasOnly DiscardsNone [] more) → spares wanted (map (row_of p.event) more) ≡ true
   spared_then (inl ends) more quiet =
-      spared_ended None p.event out t ready.passing.work begins waited apart waits (ended_run t.checks out ends) (map (row_of p.event) more)
+      spared_ended None p.event out t ready.passing.work begins waited apart waits go (ended_run t.checks out ends) (map (row_of p.event) more)
   spared_then (inr none) more quiet =
       let only = quiet (none_then none) in
       spares_put wanted p.event more (λ kind has. ap (λ (o : Option DocId). option_map_or (has_doc wanted) o false) (only.each kind (subst (λ (l : List RowKind). Has l kind) only.is has)))
@@ -58,4 +58,4 @@ module _ {sweeps : Bool} (p : InPass) (out : List RowKind) (t : Tables) (queue :
   -- and all is as it was wanted, where it was before
   pub wanted_then : EndsRun out ⊎ NoneStray (now_of p.event out) → (more : List RowKind) → (NoneStray (now_of then_.event []) → HasOnly DiscardsNone [] more) → EndAsWanted p.event ((out ++ asked) ++ more) → EndAsWanted then_.event more
   wanted_then ends more quiet was =
-      ends_then None p.event out t ready.passing.work begins waited apart waits more (spared_then ends more quiet) was
+      ends_then None p.event out t ready.passing.work begins waited apart waits go more (spared_then ends more quiet) was

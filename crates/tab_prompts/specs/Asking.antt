@@ -4,7 +4,7 @@ use Rattle.asking_facts.specs.Noting.{IsToPrompt}
 use Rattle.asking_facts.specs.Prompting.{NoneAnsweredEarly, NotesWanted}
 use Rattle.check_facts.specs.Prompting.{IsAskDue, todo_of}
 use Rattle.checking_facts.specs.Prompts.{AreAskedDuly, told_by}
-use Rattle.log_model.specs.Places.{all_asked}
+use Rattle.log_model.specs.Places.{all_asked, is_traversal, is_under_way}
 use Rattle.log_model.specs.Seen.{Asked, Asking, Seen, request_of}
 use Rattle.log_model.specs.declared.row_kind.RowKind.TheVariants as rows
 use Rattle.log_model.specs.declared.row_kind.RowKind.{RowKind}
@@ -14,6 +14,7 @@ use Rattle.std.specs.List.{list_all}
 use Rattle.std.specs.Prelude.{Bool, List, None, Option, Some, [], false, not, true, ◌&&◌, ◌==◌, ◌∷◌, ◌≡◌, ◌⊎◌}
 use Rattle.tab_ids.specs.declared.DocId.{DocId}
 use Rattle.tab_ids.specs.declared.ReqId.{ReqId}
+use Rattle.tab_prompts.specs.Prompts.{is_waiting}
 use Rattle.unasked_dues.specs.Checking.{NonePasses}
 use Rattle.unload_check.specs.Checks.{OpenCheck, after_all_deaths, check_of}
 
@@ -65,6 +66,19 @@ pub record IsPromptDue (checking : ReqId → Bool) (start now : Seen) (table : L
 abbrev pub EachIsDue : (ReqId → Bool) → Seen → Seen → List (ReqId × OpenCheck) → List ReqId → Type 0
 EachIsDue checking start now table reqs =
     (req : ReqId) (doc : DocId) → Has reqs req → todo_of table req ≡ Some doc → IsPromptDue checking start now table req doc
+
+-- the request, if it is there, is under way
+abbrev pub IsUnderWay : Seen → ReqId → Type 0
+IsUnderWay s req = (q : Asked) → request_of s req ≡ Some q → is_under_way q ≡ true
+
+-- so is each of these
+abbrev pub AreUnderWay : Seen → List ReqId → Type 0
+AreUnderWay s reqs = (req : ReqId) → Has reqs req → IsUnderWay s req
+
+-- these are all traversals that wait by the table and are under way
+abbrev pub AreAllWaiting : Seen → List (ReqId × OpenCheck) → List ReqId → Type 0
+AreAllWaiting s checks reqs =
+    (req : ReqId) (q : Asked) → request_of s req ≡ Some q → is_traversal q.what ≡ true → is_under_way q ≡ true → is_waiting checks req ≡ true → Has reqs req
 
 -- no request is twice among these
 abbrev pub AreApart : List ReqId → Type 0

@@ -41,7 +41,7 @@ fn prompt_one(checks: &UnloadCheck, out: &mut Out, req: ReqId) -> Result<(), Out
     Ok(())
 }
 
-/// The user is asked about each of these requests, in their order, where a document wants it. They are those that waited before the table was told of what was discarded: so none of them has its prompt up already. HTML Standard, "checking if unloading is canceled"; one prompt for each request is this project's own.
+/// The user is asked about each of these requests, in their order, where a document wants it. They are those that waited before the table was told of what was discarded, and weren't dropped since: so none of them has its prompt up already. HTML Standard, "checking if unloading is canceled"; one prompt for each request is this project's own.
 pub fn prompt_settled(
     checks: &UnloadCheck,
     out: &mut Out,
