@@ -34,20 +34,20 @@ use Rattle.seen_facts.proofs.Request.Times.{times_none}
 use Rattle.row_facts.proofs.RestRows.Rows.{accepted_rests, dropped_rests}
 use Rattle.tab_facts.proofs.FrameWhole.Ending.{some_times}
 use Rattle.tab_facts.specs.TabEvents.Between.{IsBetweenChecks, has_order}
-use Rattle.tab_facts.specs.TabWhole.Tab.{IsTab}
+use Rattle.tab_facts.specs.TabWhole.Tab.{IsTab, open_among}
 use Rattle.tab_facts.proofs.TabWhole.Accepting as accepting
 use Rattle.tab_facts.proofs.TabWhole.Refusing.{hand_load_dropped_tab, load_other, queued_dropped_tab}
 use Rattle.tab_facts.proofs.TabWhole.Where.{IsNowhereElse, at_most_once, listed_alone}
 use Rattle.unasked_tab.specs.Steady.{AreSteady}
 use Rattle.unasked_tab.proofs.Begun.{some_same}
-use Rattle.unasked_tab.proofs.Reordered.{AreAsOften, reordered_tab}
+use Rattle.unasked_tab.proofs.Reordered.{AreAsOften, open_tab, reordered_tab}
 use Rattle.unasked_tab.proofs.Steady.{steady_between}
 
--- loads in their check are at hand in any order
-pub reordered_between : (keep : ℕ) (run : Option ReqId) (loads other : List ReqId) (waits : Bool) (s : Seen) → AreAsOften loads other → IsBetweenChecks keep run loads waits s → IsBetweenChecks keep run other waits s
-reordered_between keep run loads other waits s same is =
+-- what holds with some loads in their check holds with others, where what holds between two rows does
+pub other_between : (keep : ℕ) (run : Option ReqId) (loads other : List ReqId) (waits : Bool) (s : Seen) → (IsTab run loads [] s → IsTab run other [] s) → IsBetweenChecks keep run loads waits s → IsBetweenChecks keep run other waits s
+other_between keep run loads other waits s on is =
     record {
-      tab = reordered_tab run loads other [] s same is.tab;
+      tab = on is.tab;
       flows = is.flows;
       served = is.served;
       told = is.told;
@@ -60,6 +60,16 @@ reordered_between keep run loads other waits s same is =
       loading = is.loading;
       few = is.few;
     }
+
+-- so loads in their check are at hand in any order
+pub reordered_between : (keep : ℕ) (run : Option ReqId) (loads other : List ReqId) (waits : Bool) (s : Seen) → AreAsOften loads other → IsBetweenChecks keep run loads waits s → IsBetweenChecks keep run other waits s
+reordered_between keep run loads other waits s same =
+    other_between keep run loads other waits s (reordered_tab run loads other [] s same)
+
+-- and those that have ended may be taken out
+pub open_between : (keep : ℕ) (run : Option ReqId) (loads : List ReqId) (waits : Bool) (s : Seen) → IsBetweenChecks keep run loads waits s → IsBetweenChecks keep run (open_among s.requests loads) waits s
+open_between keep run loads waits s =
+    other_between keep run loads (open_among s.requests loads) waits s (open_tab run loads [] s)
 
 -- one request is another, which isn't the traversal that runs and no ongoing load, before or then
 pub others_steady : (run : Option ReqId) (asked later : List Asked) (req : ReqId) → EachAsked (λ r q. is_run q ≡ is_this run r) asked → EachAsked (λ r q. is_run q ≡ is_this run r) later → is_this run req ≡ false → ((r : ReqId) → (r.0 == req.0) ≡ false → request_in later r ≡ request_in asked r) → ((q : Asked) → request_in later req ≡ Some q → is_ongoing_load q ≡ false) → ((q : Asked) → request_in asked req ≡ Some q → is_ongoing_load q ≡ false) → AreSteady asked later
