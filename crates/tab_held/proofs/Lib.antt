@@ -1,5 +1,6 @@
 pub mod Over
 pub mod Known
+pub mod Holds
 pub mod Cut
 pub mod Ends
 pub mod Goes

@@ -2,15 +2,17 @@
 -- HTML Standard, "apply the history step" and "checking if unloading is canceled". The table of checks, and that the event is cut, are this project's own.
 use Rattle.asking_facts.specs.Known.{AskingKnown}
 use Rattle.checking_facts.specs.Prompts.{told_by}
-use Rattle.log_model.specs.Places.{is_traversal}
+use Rattle.log_model.specs.Places.{is_traversal, is_under_way}
 use Rattle.log_model.specs.Seen.{Asked, request_of}
 use Rattle.log_model.specs.declared.job.Why.{Why}
 use Rattle.log_model.specs.declared.row_kind.RowKind.{RowKind}
 use Rattle.move_queue.specs.Queue.{Queue}
+use Rattle.move_queue.specs.declared.queue_step.QueueStep.{QueueStep}
+use Rattle.move_queue.specs.declared.queue_step.QueueStep.TheVariants.{Traverse}
 use Rattle.row_facts.specs.Owed.Owed.{IsLoose, owes_seen}
 use Rattle.seen_laws.specs.InEvent.{EndAsWanted, InEvent, cut_wanting, log_of, now_of}
 use Rattle.std.specs.Option.{option_map_or}
-use Rattle.std.specs.Prelude.{Bool, List, None, Some, [], false, true, ◌++◌, ◌∷◌, ◌≡◌, ◌⊎◌}
+use Rattle.std.specs.Prelude.{Bool, List, None, Some, [], false, true, ℤ, ◌++◌, ◌∷◌, ◌≡◌, ◌⊎◌}
 use Rattle.tab_doors.specs.declared.tables.Tables.{Tables}
 use Rattle.tab_ids.specs.declared.ReqId.{ReqId}
 use Rattle.tab_ids.specs.declared.StateId.{StateId}
@@ -29,6 +31,17 @@ use Rattle.unload_check.specs.declared.check.Check.{Check}
 abbrev pub WaitsAlone : InEvent → List (ReqId × OpenCheck) → ReqId → Type 0
 WaitsAlone e table req =
     (r : ReqId) (q : Asked) → request_of (log_of e []) r ≡ Some q → is_traversal q.what ≡ true → is_waiting table r ≡ true → r ≡ req
+
+-- as the event's own row was logged, or the event was cut, the request is a traversal in its check that is under way; and its step waits first
+pub record HoldsQueue (e : InEvent) (queue : Queue) (req : ReqId) : Type 0 where
+  pub q : Asked
+  pub at : request_of (log_of e []) req ≡ Some q
+  pub goes : is_traversal q.what ≡ true
+  pub runs : is_under_way q ≡ true
+  pub on : e.checking req ≡ true
+  pub delta : ℤ
+  pub rest : List QueueStep
+  pub front : queue.waiting ≡ Traverse req delta ∷ rest
 
 -- ---- its check has come to an end
 

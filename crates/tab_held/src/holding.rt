@@ -2,10 +2,10 @@
 ghost use Rattle.std.specs.Prelude.{◌≡◌, ◌⊎◌, None, IfOk, false, true};
 ghost use Rattle.seen_laws.specs.InEvent.{now_of};
 ghost use Rattle.tab_facts.specs.Calm.Calm.{IsCalmYet};
-ghost use Rattle.tab_held.specs.Holding.{GoesOnAfter, HasRestedHeld, InCut, RestsNoted, WaitsAlone, goes_on, held_cut, is_over};
+ghost use Rattle.tab_held.specs.Holding.{GoesOnAfter, HasRestedHeld, HoldsQueue, InCut, RestsNoted, WaitsAlone, goes_on, held_cut, is_over};
 ghost use Rattle.tab_prompts.specs.Asking.{BeginsAsked, told_of};
 ghost use Rattle.tab_settles.specs.Held.{EndsRun, InHeld, IsClearedNoted, NoneStray};
-ghost use Rattle.tab_settles.specs.Settling.{IsReadyIn, MayDiscardIn};
+ghost use Rattle.tab_settles.specs.Settling.{IsReadyIn};
 
 use crate::rows::put_all;
 use address::OutOfMemory;
@@ -57,7 +57,7 @@ fn tell_and_rest(
     requires ends { EndsRun out.old ⊎ NoneStray (now_of c.held.pass.event out.old) }
     requires begins { BeginsAsked c.held.pass.event tables.old.checks }
     requires alone { WaitsAlone c.held.pass.event tables.old.checks req }
-    requires held { MayDiscardIn false c.held.pass.event → ⊥ }
+    requires holds { HoldsQueue c.held.pass.event c.held.queue req }
     ensures rests { IfOk result (λ goes. goes ≡ false → RestsNoted c req out.old tables.old out.new tables.new reasons.now.cause) }
     ensures stays { IfOk result (λ goes. goes ≡ true → out.new ≡ out.old) }
     ensures told { IfOk result (λ goes. goes ≡ true → tables.new ≡ record tables.old { checks = told_of tables.old.checks out.old }) }
@@ -92,7 +92,7 @@ pub fn rest_while_held(
     requires calm { IsCalmYet (now_of h.pass.event out.old) }
     requires begins { BeginsAsked h.pass.event tables.old.checks }
     requires alone { WaitsAlone h.pass.event tables.old.checks req }
-    requires held { MayDiscardIn false h.pass.event → ⊥ }
+    requires holds { HoldsQueue h.pass.event h.queue req }
     ensures rests { IfOk result (λ goes. goes ≡ false → HasRestedHeld h.pass out.old out.new tables.old tables.new h.queue blame.new.entries reasons.now.cause req) }
     ensures goes { IfOk result (λ goes. goes ≡ true → GoesOnAfter h.pass out.old out.new tables.old tables.new h.queue blame.new.entries reasons.now.cause req) }
 {
