@@ -16,6 +16,7 @@ use Rattle.check_facts.proofs.Changes.{ask_gone}
 use Rattle.unasked_dues.specs.Checking.{NonePasses}
 use Rattle.checking_facts.proofs.Askings.{asked_waits}
 use Rattle.checking_facts.proofs.Cases.{asked_checks}
+use Rattle.checking_facts.proofs.Spent.{unspent_at}
 use Rattle.checking_facts.proofs.Entering.{entered_checks}
 use Rattle.checking_facts.proofs.Waits.{begun_waits, entered_waits, none_waits}
 use Rattle.checking_facts.specs.Checks.{AreInCheck, MayEnter, NoOtherUnderWay, NonePassesBut, SameBut, just}
@@ -64,7 +65,7 @@ module _ (e : InEvent) (checking entered : ReqId → Bool) (now : Seen) (req : R
   pub begun_checks : MayEnter q → IsNextState now (record { 0 = now.states + 1 }) → (is_traversal q.what ≡ true → NoOtherUnderWay now req) → AreInCheck checking now → AreInCheck entered (then_ e now req goal questions jobs q begins are)
   begun_checks may next alone checks =
       asked_in e entered now req on (once_begun e now req goal questions jobs q begins are) (now.jobs + 1) questions jobs are
-      (entered_checks checking entered now e.event e.actor req goal same off on (λ x at. subst (λ (y : Asked). MayEnter y) (same_one x at) may) next (λ x at goes. alone (ap (λ (y : Asked). is_traversal y.what) (same_one x at) ∙ goes)) checks)
+      (entered_checks checking entered now e.event e.actor req goal same off on (λ x at. subst (λ (y : Asked). MayEnter y) (same_one x at) may) next (unspent_at now req q begins.at begins.open_ begins.unstarted) (λ x at goes. alone (ap (λ (y : Asked). is_traversal y.what) (same_one x at) ∙ goes)) checks)
 
   -- and doesn't pass
   pub begun_none : AreSome questions → NonePasses checking now → NonePasses entered (then_ e now req goal questions jobs q begins are)

@@ -19,7 +19,7 @@ use Rattle.log_model.specs.Seen.{Asked, Seen, request_of}
 use Rattle.unasked_dues.specs.Checking.{IsForOther}
 use Rattle.check_facts.specs.Rows.{IsNoQuestion}
 use Rattle.checking_facts.specs.Checks.{AreInCheck, BeginsApart, IsForChecked, IsOwnFragment, NoneRunsInCheck, PutsNoneAsleep, SendsDuly}
-use Rattle.checking_facts.specs.States.{MakesOff}
+use Rattle.checking_facts.specs.States.{IsUnspent, MakesOff}
 use Rattle.checking_facts.proofs.Rows.{row_checks}
 
 -- ---- orders
@@ -85,9 +85,9 @@ module _ (checking : ReqId → Bool) (s : Seen) (event : ℕ) (actor : Actor) (a
   -- ---- a request begins
 
   -- one that isn't in its check
-  pub begun_outside : (req : ReqId) (goal : Option Step) → checking req ≡ false → ((q : Asked) → request_of s req ≡ Some q → is_traversal q.what ≡ true → NoneRunsInCheck checking s) → AreInCheck checking (next (rows.Started req goal))
-  begun_outside req goal off none =
-      row_checks checking s (record { event = event; actor = actor; row = rows.Started req goal }) apart (inl off) are
+  pub begun_outside : (req : ReqId) (goal : Option Step) → checking req ≡ false → IsUnspent s req → ((q : Asked) → request_of s req ≡ Some q → is_traversal q.what ≡ true → NoneRunsInCheck checking s) → AreInCheck checking (next (rows.Started req goal))
+  begun_outside req goal off unspent none =
+      row_checks checking s (record { event = event; actor = actor; row = rows.Started req goal }) apart (inl off, unspent) are
     where
       apart : BeginsApart checking s req
       apart by q r at there other goes runs goes_ = rw off (none q at goes by r there runs goes_)

@@ -14,7 +14,7 @@ use Rattle.checking_facts.proofs.Grown.{Deeds, Goes, deeds_of, req_same}
 use Rattle.checking_facts.proofs.Rows.{begun_all, row_checks}
 use Rattle.checking_facts.proofs.States.{begun_states, has_begun}
 use Rattle.checking_facts.specs.Checks.{AreInCheck, MayEnter, NoOtherUnderWay, SameBut, just}
-use Rattle.checking_facts.specs.States.{AreOwnStates, IsNextState, IsOwnState}
+use Rattle.checking_facts.specs.States.{AreOwnStates, IsNextState, IsOwnState, IsUnspent}
 
 -- a request enters its check as it begins
 module _ (checking entered : ReqId → Bool) (s : Seen) (event : ℕ) (actor : Actor) (req : ReqId) (goal : Option Step) (same : SameBut req checking entered) (off : checking req ≡ false) (on : entered req ≡ true) (may : (q : Asked) → request_of s req ≡ Some q → MayEnter q) where
@@ -42,8 +42,8 @@ module _ (checking entered : ReqId → Bool) (s : Seen) (event : ℕ) (actor : A
       by_one false e =
           own state (record { req = held.req; q = held.q; at = held.at; on = was held.req held.on e; going = held.going; own = held.own })
 
-  pub entered_checks : IsNextState s (record { 0 = s.states + 1 }) → ((q : Asked) → request_of s req ≡ Some q → is_traversal q.what ≡ true → NoOtherUnderWay s req) → AreInCheck checking s → AreInCheck entered then_
-  entered_checks next none are =
+  pub entered_checks : IsNextState s (record { 0 = s.states + 1 }) → IsUnspent s req → ((q : Asked) → request_of s req ≡ Some q → is_traversal q.what ≡ true → NoOtherUnderWay s req) → AreInCheck checking s → AreInCheck entered then_
+  entered_checks next unspent none are =
       record {
         numbered = outside.numbered;
         others = λ r q at out. outside.others r q at (by_out r out (just req r) refl);
@@ -51,11 +51,12 @@ module _ (checking entered : ReqId → Bool) (s : Seen) (event : ℕ) (actor : A
         checks = λ r q at is. checks r q at is (just req r) refl;
         alone = λ r by q p at there runs runs_ goes goes_ is. alone r by q p at there runs runs_ goes goes_ is (just req r) refl;
         states = begun_states entered s event actor req goal (begun_all entered s event actor req goal) (inr next) (were_own are.states);
+        spent = outside.spent;
       }
     where
       outside : AreInCheck checking then_
       outside =
-          row_checks checking s (record { event = event; actor = actor; row = rows.Started req goal }) (λ by q r at there other goes runs goes_. absurd (none q at goes by r there other runs goes_)) (inl off) are
+          row_checks checking s (record { event = event; actor = actor; row = rows.Started req goal }) (λ by q r at there other goes runs goes_. absurd (none q at goes by r there other runs goes_)) (inl off, unspent) are
 
       by_out : (r : ReqId) → entered r ≡ false → (b : Bool) → just req r ≡ b → checking r ≡ false
       by_out r out true e =
@@ -104,6 +105,7 @@ passed_checks checking passed s req same off has are =
       checks = λ r q at is. are.checks r q at (was r is (r.0 == req.0) refl);
       alone = λ r by q p at there runs runs_ goes goes_ is. are.alone r by q p at there runs runs_ goes goes_ (was r is (r.0 == req.0) refl);
       states = λ state held. are.states state (record { req = held.req; q = held.q; at = held.at; on = was held.req held.on (held.req.0 == req.0) refl; going = held.going; own = held.own });
+      spent = are.spent;
     }
   where
     others : (r : ReqId) (q : Asked) → request_of s r ≡ Some q → passed r ≡ false → (b : Bool) → (r.0 == req.0) ≡ b → has_passed s q ≡ true

@@ -1,5 +1,7 @@
 pub mod Grown
 pub mod States
+pub mod Counts
+pub mod Spent
 pub mod Rows
 pub mod Entering
 pub mod Cases

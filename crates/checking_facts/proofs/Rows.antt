@@ -1,5 +1,5 @@
 -- What of the requests in their checks is carried goes on to hold over each row.
-use Rattle.std.proofs.Common.{◌≡◌, ◌⊎◌, ℕ, ◌+◌, ◌-◌, Bool, true, false, not, cond, ◌&&◌, ◌||◌, ◌==◌, List, [], ◌∷◌, ◌++◌, length, Option, Some, None, refl, sym, ap, ◌∙◌, subst, arith}
+use Rattle.std.proofs.Common.{◌≡◌, ℕ, ◌-◌, Bool, true, false, not, cond, ◌&&◌, ◌||◌, ◌==◌, List, [], ◌∷◌, ◌++◌, length, Option, Some, None, refl, sym, ap, ◌∙◌, subst, arith}
 use Rattle.std.specs.Prelude.{is_none, slice_get}
 use Rattle.std.specs.List.{list_all}
 use Rattle.std.proofs.lemmas.Bool.{and_parts}
@@ -33,9 +33,10 @@ use Rattle.seen_facts.proofs.Asked.Passed.{IsNoOpening, gone_stays}
 use Rattle.seen_facts.proofs.Each.Runs.{each_asked_more}
 use Rattle.unasked_dues.specs.Checking.{AreNumbered, IsChecking, NoStepChecks}
 use Rattle.checking_facts.proofs.Grown.{AllGo, Deeds, Goes, all_on, all_same, all_served, begun_goes, ended_goes, go_alone, go_begun, go_checks, go_numbered, go_others, heard_goes, inside_goes, looks_of, outside_goes, req_same, unread_goes}
+use Rattle.checking_facts.proofs.Spent.{row_spent}
 use Rattle.checking_facts.proofs.States.{accepted_states, begun_states, row_states}
 use Rattle.checking_facts.specs.Checks.{AreInCheck, BeginsApart, BeginsOff, GoesDuly, IsNextOutside, SendsDuly, just}
-use Rattle.checking_facts.specs.States.{IsNextState, LeavesStates}
+use Rattle.checking_facts.specs.States.{LeavesStates}
 
 -- none begins
 abbrev pub no_one : ReqId → Bool
@@ -206,6 +207,7 @@ module _ (checking : ReqId → Bool) (s : Seen) (row : LogRow) where
         checks = go_checks checking no_one s (after s row) all are.checks;
         alone = go_alone checking no_one s (after s row) all (λ req by q r at there runs runs_ goes goes_ on begins. absurd cc) are.alone;
         states = row_states checking s row no_one (λ req. refl) all leaves are.states;
+        spent = row_spent checking s row leaves are.spent;
       }
 
 module _ (checking : ReqId → Bool) (s : Seen) (event : ℕ) (actor : Actor) where
@@ -224,6 +226,7 @@ module _ (checking : ReqId → Bool) (s : Seen) (event : ℕ) (actor : Actor) wh
         begun = each_asked_more (λ r q. checking r ≡ true → q.is_started ≡ true) s.requests new req is.next (λ on. let never : true ≡ false = sym on ∙ is.outside in absurd cc) are.begun;
         checks = each_asked_more (λ r q. checking r ≡ true → IsChecking r q) s.requests new req is.next (λ on. let never : true ≡ false = sym on ∙ is.outside in absurd cc) are.checks;
         states = accepted_states checking s event actor req doc what is.next are.states;
+        spent = row_spent checking s (record { event = event; actor = actor; row = rows.Accepted req doc what }) tt are.spent;
         alone = λ r by p q at there. each_asked_more (λ x y. (z : ReqId) (w : Asked) → request_in more z ≡ Some w → Apart x y w) s.requests new req is.next (λ z w found. new_apart req w) (λ x y here. each_asked_more (λ z w. Apart x y w) s.requests new req is.next (apart_new x y) (λ z w found. are.alone x z y w here found)) r p at by q there;
       }
     where
@@ -261,15 +264,16 @@ module _ (checking : ReqId → Bool) (s : Seen) (event : ℕ) (actor : Actor) wh
         (all_on checking (just req) (is_gone s) s.requests s.requests req _ (λ q. begun_goes checking (just req) (is_gone s) req q (record q { is_started = true; goal = goal }) itself refl refl (λ is. refl) (λ is. is) refl) (all_same checking (just req) (is_gone s) s.requests))
 
     -- and is apart
-    begun_checks : BeginsApart checking s req → (checking req ≡ false) ⊎ IsNextState s (record { 0 = s.states + 1 }) → AreInCheck checking s → AreInCheck checking begun
-    begun_checks apart next are =
+    begun_checks : BeginsApart checking s req → LeavesStates checking s (rows.Started req goal) → AreInCheck checking s → AreInCheck checking begun
+    begun_checks apart leaves are =
         record {
           numbered = numbered;
           others = go_others checking (just req) s begun begun_all (λ doc gone. gone) are.others;
           begun = go_begun checking (just req) s begun begun_all are.begun;
           checks = go_checks checking (just req) s begun begun_all are.checks;
           alone = go_alone checking (just req) s begun begun_all begins_apart are.alone;
-          states = begun_states checking s event actor req goal begun_all next are.states;
+          states = begun_states checking s event actor req goal begun_all leaves.0 are.states;
+          spent = row_spent checking s (record { event = event; actor = actor; row = rows.Started req goal }) leaves are.spent;
         }
       where
         numbered : AreNumbered begun
@@ -384,9 +388,9 @@ row_steps checking s row off duly steps = by_kind row.row refl off duly
 
 -- ---- a log without requests
 
--- where no request was accepted yet
-pub none_checks : (checking : ReqId → Bool) (s : Seen) → s.requests ≡ [] → AreInCheck checking s
-none_checks checking s none =
+-- where no request was accepted yet, and one document state was numbered
+pub none_checks : (checking : ReqId → Bool) (s : Seen) → s.requests ≡ [] → s.states ≡ 1 → AreInCheck checking s
+none_checks checking s none one =
     record {
       numbered = λ req q at. never req q at;
       others = λ req q at off. never req q at;
@@ -394,6 +398,7 @@ none_checks checking s none =
       checks = λ req q at on. never req q at;
       alone = λ req by q r at there runs runs_ goes goes_ on. never req q at;
       states = λ state held. never held.req held.q held.at;
+      spent = rw (none, one) (omega arith);
     }
   where
     no_request : (b : Bool) (n : ℕ) (q : Asked) → (let o : Option Asked = cond b None (slice_get [] n) in o) ≡ Some q → ⊥

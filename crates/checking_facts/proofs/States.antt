@@ -324,7 +324,7 @@ module _ (checking : ReqId → Bool) (s : Seen) (row : LogRow) where
   pub row_entries : (kind : RowKind) → row.row ≡ kind → LeavesStates checking s kind → (state : StateId) → IsHeld checking s state → ((old : Row) → Has s.history.rows old → (state.0 == old.state.0) ≡ false) → (new : Row) → Has then_.history.rows new → (state.0 == new.state.0) ≡ false
   row_entries (rows.Opened entry own doc proc slot address) e never state held apart new has = absurd never
   row_entries (rows.Applied req change) e off state held apart new has =
-      applied_apart checking s state held change off apart new (subst (λ (h : History). Has h.rows new) (ap (λ (k : RowKind). history_after s.history k) e) has)
+      applied_apart checking s state held change off.0 apart new (subst (λ (h : History). Has h.rows new) (ap (λ (k : RowKind). history_after s.history k) e) has)
   row_entries (rows.Accepted req doc what) e off state held apart new has = apart new (subst (λ (h : History). Has h.rows new) (ap (λ (k : RowKind). history_after s.history k) e) has)
   row_entries (rows.Started req goal) e off state held apart new has = apart new (subst (λ (h : History). Has h.rows new) (ap (λ (k : RowKind). history_after s.history k) e) has)
   row_entries (rows.Refused req reason) e off state held apart new has = apart new (subst (λ (h : History). Has h.rows new) (ap (λ (k : RowKind). history_after s.history k) e) has)

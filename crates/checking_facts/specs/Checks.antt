@@ -14,7 +14,7 @@ use Rattle.log_model.specs.AfterPlaces.{sleepers_with}
 use Rattle.log_model.specs.Checks.{is_checked}
 use Rattle.log_model.specs.Places.{all_asked, has_passed, is_traversal, is_under_way}
 use Rattle.log_model.specs.Seen.{Seen, Asked, desk_of, request_of}
-use Rattle.checking_facts.specs.States.{AreBegun, AreOwnStates}
+use Rattle.checking_facts.specs.States.{AreBegun, AreOwnStates, AreSpent}
 use Rattle.check_facts.specs.Rows.{IsNoAnswerOf, IsServing}
 use Rattle.unasked_dues.specs.Checking.{AllOthersPass, AreChecking, AreNumbered, IsForOther, NoOtherRuns}
 
@@ -26,6 +26,8 @@ pub record AreInCheck (checking : ReqId → Bool) (s : Seen) : Type 0 where
   pub checks : AreChecking checking s
   pub alone : NoOtherRuns checking s
   pub states : AreOwnStates checking s
+  -- how many document states were numbered
+  pub spent : AreSpent s
 
 -- a request may enter its check as it begins: it is one that is checked, isn't under way, moved nobody, showed and changed nothing, and sent no document to a fragment
 pub record MayEnter (q : Asked) : Type 0 where

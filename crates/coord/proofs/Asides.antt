@@ -121,8 +121,8 @@ module _ (e : InEvent) (c : Coordinator) (open_ : IsOpenIn e c) where
   pub seen_room : HasRoomFor (seen_start e)
   seen_room = subst HasRoomFor (sym start_plain) open_.room
 
-  pub start_lasts : LastsInLog e.checking e.start
-  start_lasts = subst (λ (checking : ReqId → Bool). LastsInLog checking e.start) (sym open_.unchecked) open_.stands.lasts
+  pub start_lasts : LastsInLog e.checking c.tables.asking e.start
+  start_lasts = subst (λ (checking : ReqId → Bool). LastsInLog checking c.tables.asking e.start) (sym open_.unchecked) open_.stands.lasts
 
   -- the request isn't in a check
   pub off : (req : ReqId) → e.checking req ≡ false

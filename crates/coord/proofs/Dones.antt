@@ -82,7 +82,7 @@ module _ (d : InDone) (c : Coordinator) (job : Job) (done : IsDone d c job) wher
   pub done_stands : StandsFor none_in_check (seen_start d.event) c.tables c.queue c.blame.entries
   done_stands = seen_stands e c done.open_
 
-  pub done_logged : HasLogged d.event c.tables.checks
+  pub done_logged : HasLogged d.event c.tables.checks c.tables.asking
   done_logged = delivered_logged e d.proc (reports.Done job d.outcome None) done.delivery c done.open_
 
   pub done_taken : (later : List LogRow) → IsTakenIn d.event later

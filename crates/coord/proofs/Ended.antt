@@ -56,7 +56,7 @@ settled_acts e was out c after cause last to header slots at due put left =
         but = record {
           stands = subst (λ (x : Seen). tab.StandsFor tab.none_in_check x after.tables after.queue after.blame.entries) (sym plain_out) (as_stands tab.none_in_check (now_of e out) after.tables (told_all after.tables.checks out) after.queue after.blame.entries all.stands);
           keep = at.header ∙ ap (λ (h : Header). h.keep) (sym (header ∙ to.header));
-          lasts = subst (λ (checking : ReqId → Bool). tab.LastsInLog checking (log_of e out)) to.unchecked all.lasts;
+          lasts = subst (λ (checking : ReqId → Bool). tab.LastsInLog checking after.tables.asking (log_of e out)) to.unchecked all.lasts;
           unchecked = none_before after.tables.checks out (λ req. at.passing.work.asked.within req (off req));
           plain =
               ap (λ (checking : ReqId → Bool). unasked checking (log_of e out)) (sym to.unchecked)

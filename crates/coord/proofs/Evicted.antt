@@ -69,7 +69,7 @@ module _ (e : InEvent) (state : StateId) (c : Coordinator) (open_ : IsOpenTo e c
   alive proc is = let never : rows.Evicted state ≡ rows.Delivered proc = sym asks.own ∙ is in absurd cc
 
   -- what is known of the log then
-  pub lasts_log : LastsInLog e.checking (log_of e [])
+  pub lasts_log : LastsInLog e.checking c.tables.asking (log_of e [])
   lasts_log = owns.evicted_log e c.tables.checks open_.in_.uncut open_.in_.undue (start_lasts e c open_.in_) (start_asks e c open_.in_) state asks.own
 
   pub logged : IsLogged e c.tables.checks

@@ -71,7 +71,7 @@ module _ (e : InEvent) (c : Coordinator) (open_ : IsOpenIn e c) (req : ReqId) (d
   led_here = ap (λ (k : RowKind). leads k) own
 
   -- what lasts of the log
-  pub accepted_log : req.0 ≡ length e.start.requests + 1 → LastsInLog e.checking (log_of e [])
+  pub accepted_log : req.0 ≡ length e.start.requests + 1 → LastsInLog e.checking c.tables.asking (log_of e [])
   accepted_log next =
       owns.accepted_log e c.tables.checks open_.uncut open_.undue (start_lasts e c open_) (start_asks e c open_) req doc what own next (off e c open_ req)
 
@@ -102,7 +102,7 @@ module _ (e : InEvent) (proc : ProcId) (report : Report) (delivery : IsDelivery 
       subst (λ (q : ProcId). NoDeath (slice_get (desk_of e.start q).reports 0)) one fine
 
   -- what is known of the log then
-  pub delivered_logged : HasLogged e c.tables.checks
+  pub delivered_logged : HasLogged e c.tables.checks c.tables.asking
   delivered_logged =
       owns.delivered_logged e c.tables.checks open_.uncut open_.undue (start_lasts e c open_) (start_asks e c open_) proc report report delivery (no_answer_told e c open_ proc report delivery) (seen_stands e c open_).between.tab.desks
 

@@ -35,7 +35,7 @@ module _ (e : InEvent) (c : Coordinator) (open_ : IsOpenTo e c) (req : ReqId) (d
       uncut_pass e [] later open_.in_.uncut (subst (λ (row : LogRow). EachPass (start_of e) (row ∷ []) later) (sym (accepted_row e req None (requests.Go delta) asked.by_user asked.own)) (go_passes e.header e.start e.event req delta later asked.next, tt))
 
   -- what is known of the log once it was accepted
-  logged : HasLogged e c.tables.checks
+  logged : HasLogged e c.tables.checks c.tables.asking
   logged =
       with_lawful e c.tables.checks (accepted_logged e c open_.in_ req None (requests.Go delta) asked.own asked.next) (accepted_log e c open_.in_ req None (requests.Go delta) asked.own asked.next) legal
 

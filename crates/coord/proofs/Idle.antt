@@ -31,13 +31,13 @@ applies_none (row ∷ more) none req change (inl is) = subst AppliesNone is none
 applies_none (row ∷ more) none req change (inr has) = applies_none more none.1 req change has
 
 -- after these rows the coordinator stands for the log, where all that it keeps does
-pub stands_then : (e : InEvent) (c : Coordinator) → IsOpenIn e c → (out : List RowKind) → tab.StandsFor tab.none_in_check (log_of e out) c.tables c.queue c.blame.entries → tab.LastsInLog e.checking (log_of e out) → IsPlain e out → AreFoundRunning (now_of e out) → AreTelling (now_of e out) → AreSlots (log_of e out) c.slots.entries → StandsFor (log_of e out) c
+pub stands_then : (e : InEvent) (c : Coordinator) → IsOpenIn e c → (out : List RowKind) → tab.StandsFor tab.none_in_check (log_of e out) c.tables c.queue c.blame.entries → tab.LastsInLog e.checking c.tables.asking (log_of e out) → IsPlain e out → AreFoundRunning (now_of e out) → AreTelling (now_of e out) → AreSlots (log_of e out) c.slots.entries → StandsFor (log_of e out) c
 stands_then e c open_ out stands lasts at found telling slots =
     record {
       but = record {
         stands = stands;
         keep = open_.stands.keep;
-        lasts = subst (λ (checking : ReqId → Bool). tab.LastsInLog checking (log_of e out)) open_.unchecked lasts;
+        lasts = subst (λ (checking : ReqId → Bool). tab.LastsInLog checking c.tables.asking (log_of e out)) open_.unchecked lasts;
         plain = at.plain;
         unchecked = open_.stands.unchecked;
         found = subst AreFoundRunning (sym at.same) found;

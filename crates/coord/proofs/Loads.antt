@@ -66,7 +66,7 @@ use Rattle.log_model.specs.declared.row_kind.Actor.TheVariants as actors
 
 -- ---- a load
 
-module _ (e : InEvent) (t : Tables) (queue : Queue) (blame : List (StateId × ReqId)) (stands : StandsFor none_in_check (seen_start e) t queue blame) (req : ReqId) (nav : NavId) (mode : Mode) (address : List ℕ) (its : IsLoadAsk e req nav mode address) (lasts : LastsInLog e.checking (log_of e [])) where
+module _ (e : InEvent) (t : Tables) (queue : Queue) (blame : List (StateId × ReqId)) (stands : StandsFor none_in_check (seen_start e) t queue blame) (req : ReqId) (nav : NavId) (mode : Mode) (address : List ℕ) (its : IsLoadAsk e req nav mode address) (lasts : LastsInLog e.checking t.asking (log_of e [])) where
   abbrev load : Request
   load = requests.Load nav mode address
 
@@ -231,7 +231,7 @@ module _ (e : InEvent) (c : Coordinator) (open_ : IsOpenTo e c) (req : ReqId) (n
   pub load_logged : IsLogged e c.tables.checks
   load_logged = accepted_logged e c open_.in_ req None (requests.Load nav mode address) asked.own asked.next
 
-  pub load_lasts : LastsInLog e.checking (log_of e [])
+  pub load_lasts : LastsInLog e.checking c.tables.asking (log_of e [])
   load_lasts = accepted_log e c open_.in_ req None (requests.Load nav mode address) asked.own asked.next
 
   pub load_asks : IsLoadAsk e req nav mode address

@@ -63,7 +63,7 @@ module _ (d : InDelivery) (c : Coordinator) (made : Made) (its : IsMade d c made
   heard : IsSeenDelivery e d.proc d.report
   heard = seen_delivery e c its.open_ d.proc d.report its.delivery
 
-  logged : HasLogged e c.tables.checks
+  logged : HasLogged e c.tables.checks c.tables.asking
   logged = delivered_logged e d.proc d.report its.delivery c its.open_
 
   room : HasRoomFor (seen_start e)

@@ -1,4 +1,5 @@
 -- The coordinator of a tab that was just opened stands for its log.
+use Rattle.load_table.specs.declared.load.Load.{Load}
 use Rattle.unload_check.specs.Checks.{check_of}
 use Rattle.log_model.specs.Seen.{nothing}
 use Rattle.unasked.proofs.Events.{opened_seen}
@@ -29,7 +30,7 @@ fresh_stands header proc c same fresh empty none unslotted =
             subst (λ (l : List (StateId × ReqId)). tab.StandsFor tab.none_in_check (opened_at header.first proc) c.tables c.queue l) (sym none)
             (opening.fresh_stands header.first proc header.keep c.tables c.queue fresh empty);
         keep = ap (λ (k : Kept). k.keep) fresh.kept ∙ ap (λ (h : Header). h.keep) (sym same);
-        lasts = opening.fresh_lasts header.first proc nobody;
+        lasts = subst (λ (l : List Load). tab.LastsInLog nobody l (opened_at header.first proc)) (sym fresh.asking) (opening.fresh_lasts header.first proc nobody);
         unchecked = λ req. ap (check_of req) fresh.checks;
         plain = opened_seen nobody nothing 0 actors.Start (record { maker = 0; nr = 1 }) (record { 0 = 1 }) (record { 0 = 1 }) proc None header.first;
         found = opened_running 0 actors.Start (record { maker = 0; nr = 1 }) (record { 0 = 1 }) (record { 0 = 1 }) proc None header.first;

@@ -8,7 +8,7 @@ use Rattle.tab_stands.specs.Offs.{AreShownOnce}
 use Rattle.load_doors.proofs.Starts.{next_start}
 use Rattle.tab_stands.specs.Standing.{LastsInLog}
 use Rattle.unasked.proofs.Nows.{refused_goes}
-use Rattle.coord.proofs.Asides.{IsPlain, accepted_aside, accepted_plain, one_goes, plain_more, seen_room, seen_stands, start_plain}
+use Rattle.coord.proofs.Asides.{IsPlain, accepted_aside, accepted_plain, one_goes, plain_more, seen_room, seen_stands, start_plain, off}
 use Rattle.coord.specs.Standing.{HasActed, IsOpenTo}
 use Rattle.coord.specs.declared.coordinator.Coordinator.{Coordinator}
 use Rattle.coord.proofs.Idle.{alone_acts, found_now, idle_acts, telling_now}
@@ -50,7 +50,7 @@ module _ (e : InEvent) (c : Coordinator) (open_ : IsOpenTo e c) (req : ReqId) (n
       at : IsPlain e []
       at = accepted_plain e c open_.in_ req (Some reached) (requests.Poke nav action) own
 
-      lasts : LastsInLog e.checking (log_of e [])
+      lasts : LastsInLog e.checking c.tables.asking (log_of e [])
       lasts = accepted_log e c open_.in_ req (Some reached) (requests.Poke nav action) own nr
 
       once : AreShownOnce (now_of e []).places
@@ -76,8 +76,8 @@ module _ (e : InEvent) (c : Coordinator) (open_ : IsOpenTo e c) (req : ReqId) (n
       at : IsPlain e (rows.Refused req reason ∷ [])
       at = plain_more e c open_.in_ [] (rows.Refused req reason) (refused_goes e [] req reason).read accepted
 
-      lasts : LastsInLog e.checking (log_of e (rows.Refused req reason ∷ []))
-      lasts = refused_lasts e req reason (accepted_log e c open_.in_ req None (requests.Poke nav action) own nr)
+      lasts : LastsInLog e.checking c.tables.asking (log_of e (rows.Refused req reason ∷ []))
+      lasts = refused_lasts e req reason (off e c open_.in_ req) (accepted_log e c open_.in_ req None (requests.Poke nav action) own nr)
 
       once : AreShownOnce (now_of e (rows.Refused req reason ∷ [])).places
       once = subst (λ (x : Seen). AreShownOnce x.places) at.same (once_of lasts.shows)

@@ -42,7 +42,7 @@ nobody req = false
 pub record StandsBut (s : Seen) (c : Coordinator) : Type 0 where
   pub stands : tab.StandsFor tab.none_in_check s c.tables c.queue c.blame.entries
   pub keep : c.tables.kept.keep ≡ c.header.keep
-  pub lasts : tab.LastsInLog nobody s
+  pub lasts : tab.LastsInLog nobody c.tables.asking s
   -- nobody was asked so far, and no request has an unload check
   pub plain : unasked nobody s ≡ s
   pub unchecked : NoneChecked c.tables.checks

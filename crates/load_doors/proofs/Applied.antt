@@ -1,4 +1,5 @@
 -- A load is applied, and the coordinator goes on working.
+use Rattle.checking_facts.specs.States.{AddsUnspent}
 use Rattle.unasked.proofs.Nows.{applied_goes}
 use Rattle.seen_laws.specs.Unasked.{without_asks}
 use Rattle.unasked_dues.proofs.Loads.{load_to_apply}
@@ -137,10 +138,10 @@ module _ (e : InEvent) (out : List RowKind) (t : Tables) (nav : NavId) (load : L
     with_lost = record with_entry { tree = destroy_all lost load.req t.tree }
 
     entry_changes : Changes t with_entry
-    entry_changes = record { making = refl; whose = refl; shown = refl; last = refl; documents = refl; sent = refl; loads = refl; kept = refl; checks = refl }
+    entry_changes = record { making = refl; whose = refl; shown = refl; last = refl; documents = refl; sent = refl; loads = refl; kept = refl; checks = refl; asking = refl }
 
     lost_changes : Changes with_entry with_lost
-    lost_changes = record { making = refl; whose = refl; shown = refl; last = refl; documents = refl; sent = refl; loads = refl; kept = refl; checks = refl }
+    lost_changes = record { making = refl; whose = refl; shown = refl; last = refl; documents = refl; sent = refl; loads = refl; kept = refl; checks = refl; asking = refl }
 
     bare_holds : Holds bare_look with_entry
     bare_holds =
@@ -168,9 +169,14 @@ module _ (e : InEvent) (out : List RowKind) (t : Tables) (nav : NavId) (load : L
     off =
         under_way_read e.checking (log_of e out) load.req due.asked (work.checks.numbered load.req) (subst (λ (s : Seen). request_of s load.req ≡ Some due.asked) (now_is e out) due.due.at) (rw (due.due.started, due.due.open_) refl)
 
+    -- it adds no frame
+    adds_none : (c : Bool) → AddsUnspent (log_of e out) load.req (change_by c)
+    adds_none true = tt
+    adds_none false = tt
+
     pub applied_work : ongoing_load nav t.loads ≡ Some load → (next : List Load) → next ≡ cancelled nav t.loads → KeepsOthers nav t.loads next → IsAtWork e (out ++ rows.Applied load.req (change_by b) ∷ []) (record with_lost { loads = next })
     applied_work at next loads others =
-        work_more e out (rows.Applied load.req (change_by b)) None t (record with_lost { loads = next }) work (applied_goes e out load.req (change_by b) (work.checks.numbered load.req) off) tt off (brings_load e.checking (log_of e out) work.checks.states load.req from.0 nav due.address (change_by b) from.2.at off going from.2.due)
+        work_more e out (rows.Applied load.req (change_by b)) None t (record with_lost { loads = next }) work (applied_goes e out load.req (change_by b) (work.checks.numbered load.req) off) tt off (brings_load e.checking (log_of e out) work.checks.states load.req from.0 nav due.address (change_by b) from.2.at off going from.2.due, adds_none b)
         (record {
           navs = lost_holds.navs;
           documents = lost_holds.documents;
@@ -191,6 +197,7 @@ module _ (e : InEvent) (out : List RowKind) (t : Tables) (nav : NavId) (load : L
         (kept_applied e out t t load.req (change_by b) work refl)
         (off, open_undropped (log_of e out) load.req from.0 from.2.at from.2.open_)
         apply_step
+        refl
         refl
         (inl refl)
       where

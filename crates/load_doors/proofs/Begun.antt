@@ -1,4 +1,5 @@
 -- A load begins, and the coordinator goes on working; and whether it is to replace the given entry.
+use Rattle.checking_facts.proofs.Spent.{unspent_at}
 use Rattle.log_model.specs.declared.request.Mode.{Mode}
 use Rattle.std.proofs.lemmas.Bool.{or_parts}
 use Rattle.std.proofs.lemmas.List.Folds.{list_any-append}
@@ -179,7 +180,7 @@ module _ (e : InEvent) (out : List RowKind) (t : Tables) (req : ReqId) (nav : Na
 
   pub begin_load_work : IsAtWork e (out ++ rows.Started req None ∷ []) with_begun
   begin_load_work =
-      work_more e out (rows.Started req None) None t with_begun work (started_goes e out req None (work.checks.numbered req) off) soles (λ by q r at there_ other traverses on runs. no_traversal q at traverses) (inl off)
+      work_more e out (rows.Started req None) None t with_begun work (started_goes e out req None (work.checks.numbered req) off) soles (λ by q r at there_ other traverses on runs. no_traversal q at traverses) (inl off, unspent_at (log_of e out) req its.q its.due.at its.due.open_ its.due.unstarted)
       (record {
         navs = record { navs = as_before.navs.navs; order = as_before.navs.order };
         documents = as_before.documents;
@@ -200,6 +201,7 @@ module _ (e : InEvent) (out : List RowKind) (t : Tables) (req : ReqId) (nav : Na
       work.kept
       off
       begin_step
+      refl
       refl
       (inl refl)
     where

@@ -72,6 +72,7 @@ module _ {sweeps : Bool} (e : InEvent) (out : List RowKind) (t : Tables) (req : 
       off
       step
       refl
+      refl
       (inl refl)
     where
       moved : moved_by (then_dropped cause).requests t.running ≡ moved_by (now_of e out).requests t.running

@@ -78,4 +78,5 @@ module _ (e : InEvent) (out : List RowKind) (t : Tables) (doc : DocId) (req : Re
       tt
       (step_sent e out None order (fragment_quiet e order req mode address refl) refl may)
       refl
+      refl
       (inl refl))

@@ -81,6 +81,7 @@ module _ (e : InEvent) (out : List RowKind) (t u : Tables) (proc : ProcId) (doc 
       for_other
       (load_make_step due known)
       one.checks
+      one.asking
       (inl refl)
     where
       own : ongoing_load nav u.loads ≡ Some (in_phase (phases.Populating doc) its.load)

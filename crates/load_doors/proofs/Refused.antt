@@ -1,4 +1,6 @@
 -- A load is refused as it is accepted: the two rows may be logged together, and the coordinator is at work then.
+use Rattle.tab_doors.proofs.AskingLoads.{row_asking}
+use Rattle.tab_doors.specs.AskingLoads.{TiesAsking}
 use Rattle.unasked_dues.proofs.Read.{read_more, read_own}
 use Rattle.unasked_dues.proofs.Sole.{debts_own, sole_own}
 use Rattle.unasked.proofs.Nows.{refused_goes, refused_now}
@@ -54,7 +56,7 @@ use Rattle.log_model.specs.declared.request.Request.TheVariants as requests
 use Rattle.log_model.specs.declared.row_kind.Actor.TheVariants as actors
 use Rattle.log_model.specs.declared.row_kind.RowKind.TheVariants as rows
 
-module _ (e : InEvent) (t : Tables) (req : ReqId) (reason : Denial) (denied : IsDeniedLoad e req reason) (logged : IsLogged e t.checks) (tied : AreTied (now_of e []) t) where
+module _ (e : InEvent) (t : Tables) (req : ReqId) (reason : Denial) (denied : IsDeniedLoad e req reason) (logged : IsLogged e t.checks) (tied : AreTied (now_of e []) t) (asking : TiesAsking e.checking (log_of e []) t.asking) where
   -- ---- the two rows may be logged
 
   own_row : row_of e e.own ≡ (let row : LogRow = record { event = e.event; actor = actors.Ui; row = rows.Accepted req None (requests.Load denied.nav denied.mode denied.address) } in row)
@@ -149,6 +151,9 @@ module _ (e : InEvent) (t : Tables) (req : ReqId) (reason : Denial) (denied : Is
         few = subst (λ (x : Seen). length x.documents ≤ x.jobs + 1) (sym now_is) tied.few;
         initial = subst (λ (x : Seen). AreInitial x.initial_states t.initial.entries) (sym now_is) tied.initial;
         loads = subst (λ (x : Seen). TiesLoads x t.loads) (sym now_is) (other_ends s n req (refused_ended s e.event e.actor req reason) t.loads tied.loads (unstarted_no_load s req (new_request req None (requests.Load denied.nav denied.mode denied.address)) there refl));
+        asking =
+            subst (λ (x : Seen). TiesAsking e.checking x t.asking) (sym (log_more e [] (rows.Refused req reason)))
+            (row_asking e.checking (log_of e []) e.event e.actor t.asking asking (rows.Refused req reason) denied.off);
         kept = tied.kept ∙ ap (λ (x : Seen). kept_states x) (sym now_is);
         asked =
             subst (λ (x : Seen). AreAskedDuly e.checking e.start x (told_by t.checks (rows.Refused req reason ∷ []))) (sym (log_more e [] (rows.Refused req reason)))

@@ -4,7 +4,8 @@ ghost use Rattle.load_doors.specs.Logged.{IsLogged};
 ghost use Rattle.load_doors.specs.Refusing.{IsDeniedLoad};
 ghost use Rattle.load_doors.specs.Tied.{AreTied};
 ghost use Rattle.log_model.specs.declared.row_kind.RowKind.TheVariants as rows;
-ghost use Rattle.seen_laws.specs.InEvent.{InEvent, now_of};
+ghost use Rattle.seen_laws.specs.InEvent.{InEvent, log_of, now_of};
+ghost use Rattle.tab_doors.specs.AskingLoads.{TiesAsking};
 ghost use Rattle.tab_doors.specs.Working.{IsAtWork};
 
 use address::OutOfMemory;
@@ -24,6 +25,7 @@ pub fn refuse_load(
     requires denied { IsDeniedLoad e req reason }
     requires logged { IsLogged e _tables.now.checks }
     requires tied { AreTied (now_of e []) _tables.now }
+    requires asking { TiesAsking e.checking (log_of e []) _tables.now.asking }
     ensures work { OnOk result (IsAtWork e out.new _tables.now) }
     ensures out { OnOk result (out.new ≡ rows.Refused req reason ∷ []) }
 {

@@ -35,7 +35,7 @@ use Rattle.tab_facts.proofs.TabEvents.Ordered.{orders_on}
 use Rattle.tab_facts.proofs.TabEvents.Requests.{others_left}
 use Rattle.tab_facts.proofs.TabEvents.Rows.{made_left}
 use Rattle.tab_facts.proofs.TabGoing.Counts.{as_many, count_more, count_same}
-use Rattle.tab_facts.specs.TabGoing.Going.{count_of, has_ended, has_spent}
+use Rattle.tab_facts.specs.TabGoing.Going.{count_of, has_ended}
 use Rattle.tab_ids.specs.declared.DocId.{DocId}
 use Rattle.tab_ids.specs.declared.NavId.{NavId}
 use Rattle.tab_ids.specs.declared.ProcId.{ProcId}
@@ -138,7 +138,6 @@ module _ (s : Seen) (t : Tables) (queue : Queue) (blame : List (StateId × ReqId
             states = refl;
             entries = refl;
             initial = refl;
-            spent = (let same : count_of has_spent made_.requests ≡ count_of has_spent s.requests = count_same has_spent s.requests poke.req (λ (x : Asked). record x { made = Some its_made }) (λ q at. refl) in omega (arith, same));
             ended = (let same : count_of has_ended made_.requests ≡ count_of has_ended s.requests = count_same has_ended s.requests poke.req (λ (x : Asked). record x { made = Some its_made }) (λ q at. refl) in omega (arith, same));
             long = as_many s.requests poke.req (λ (x : Asked). record x { made = Some its_made });
             step = refl;
@@ -212,9 +211,6 @@ module _ (s : Seen) (t : Tables) (queue : Queue) (blame : List (StateId × ReqId
           orders = orders_on proc (λ (desk : Desk). record desk { input = drop 1 desk.input }) s.desks (λ desk has. has);
         }
 
-    spent_before : has_spent asked.q ≡ false
-    spent_before = rw (asked.unended, asked.what) refl
-
     refused_told : StaysTold s refused
     refused_told =
         record {
@@ -226,7 +222,6 @@ module _ (s : Seen) (t : Tables) (queue : Queue) (blame : List (StateId × ReqId
           states = refl;
           entries = refl;
           initial = refl;
-          spent = (let more : count_of has_spent refused.requests ≡ count_of has_spent s.requests + 1 = count_more has_spent s.requests poke.req refuse asked.q asked.there spent_before refl in omega (arith, more));
           ended = (let more : count_of has_ended refused.requests ≡ count_of has_ended s.requests + 1 = count_more has_ended s.requests poke.req refuse asked.q asked.there (ap is_some asked.unended) refl in omega (arith, more));
           long = as_many s.requests poke.req refuse;
           step = refl;

@@ -1,4 +1,5 @@
 -- A document makes something of the first poke of its process, but for an edit, or the process refuses that poke: the coordinator has acted, which does nothing itself, whoever is in a check.
+use Rattle.tab_doors.proofs.AskingLoads.{row_asking}
 use Rattle.asking_facts.proofs.Passed.{known_on}
 use Rattle.log_model.proofs.Refl.{nat_eq_refl}
 use Rattle.log_model.specs.AfterRequests.{is_running}
@@ -77,7 +78,7 @@ poke_off false true false true is other never = absurd cc
 poke_off false true false false is other none = refl
 poke_off false false false runs is other none = refl
 
-module _ (e : InEvent) (t : Tables) (queue : Queue) (blame : List (StateId × ReqId)) {check : InCheck} (stands : StandsFor check (seen_start e) t queue blame) (lasts : LastsInLog e.checking e.start) (asks : ChecksStand e.checking e.start t.checks) (room : HasRoomFor e.start) (proc : ProcId) (poke : Poke) (first : slice_get (desk_of e.start proc).input 0 ≡ Some poke) where
+module _ (e : InEvent) (t : Tables) (queue : Queue) (blame : List (StateId × ReqId)) {check : InCheck} (stands : StandsFor check (seen_start e) t queue blame) (lasts : LastsInLog e.checking t.asking e.start) (asks : ChecksStand e.checking e.start t.checks) (room : HasRoomFor e.start) (proc : ProcId) (poke : Poke) (first : slice_get (desk_of e.start proc).input 0 ≡ Some poke) where
   -- ---- as it would be had nobody been asked
 
   abbrev seen_first : slice_get (desk_of (seen_start e) proc).input 0 ≡ Some poke
@@ -178,10 +179,11 @@ module _ (e : InEvent) (t : Tables) (queue : Queue) (blame : List (StateId × Re
       abbrev its_made : Made
       its_made = made_for view poke.req what
 
-      made_lasts : LastsInLog e.checking (next e.start e.event (actors.Proc proc) (rows.Made proc (made_for view poke.req what)))
+      made_lasts : LastsInLog e.checking t.asking (next e.start e.event (actors.Proc proc) (rows.Made proc (made_for view poke.req what)))
       made_lasts =
           record {
             checks = row_checks e.checking e.start (record { event = e.event; actor = actors.Proc proc; row = rows.Made proc its_made }) tt tt lasts.checks;
+            asking = row_asking e.checking e.start e.event (actors.Proc proc) t.asking lasts.asking (rows.Made proc its_made) tt;
             shows = made_under e.start e.event (actors.Proc proc) proc its_made lasts.shows;
             duly = row_duly e.start e.event (actors.Proc proc) lasts.duly (rows.Made proc its_made) tt;
             known = known_on e.start (record { event = e.event; actor = actors.Proc proc; row = rows.Made proc its_made }) tt tt tt tt lasts.known;
@@ -246,10 +248,11 @@ module _ (e : InEvent) (t : Tables) (queue : Queue) (blame : List (StateId × Re
     idle_poke q at = subst IsIdle (some_same (sym its_asked.there ∙ at)) idle_asked
 
     module _ (reason : Denial) where
-      refused_lasts : LastsInLog e.checking (next e.start e.event (actors.Proc proc) (rows.Refused poke.req reason))
+      refused_lasts : LastsInLog e.checking t.asking (next e.start e.event (actors.Proc proc) (rows.Refused poke.req reason))
       refused_lasts =
           record {
             checks = row_checks e.checking e.start (record { event = e.event; actor = actors.Proc proc; row = rows.Refused poke.req reason }) tt tt lasts.checks;
+            asking = row_asking e.checking e.start e.event (actors.Proc proc) t.asking lasts.asking (rows.Refused poke.req reason) off;
             shows = refused_under e.start e.event (actors.Proc proc) poke.req reason lasts.shows;
             duly = row_duly e.start e.event (actors.Proc proc) lasts.duly (rows.Refused poke.req reason) tt;
             known = known_on e.start (record { event = e.event; actor = actors.Proc proc; row = rows.Refused poke.req reason }) tt tt tt tt lasts.known;

@@ -1,4 +1,5 @@
 -- A document edits itself on the first poke of its process: that is applied in the same event, and the coordinator has acted, which does nothing itself, whoever is in a check.
+use Rattle.tab_doors.proofs.AskingLoads.{row_asking}
 use Rattle.asking_facts.proofs.Passed.{known_on}
 use Rattle.tab_stands.proofs.Logged.{once_of}
 use Rattle.checking_facts.specs.Checks.{AreInCheck}
@@ -51,7 +52,7 @@ use Rattle.tab_facts.proofs.TabGoing.Counts.{as_many, count_more, count_same}
 use Rattle.tab_facts.proofs.TabWhole.Acting.{Asks, IsActing, its_asked}
 use Rattle.tab_facts.proofs.TabWhole.Editing as editing
 use Rattle.tab_facts.specs.Last.Lasting.{AreLasting}
-use Rattle.tab_facts.specs.TabGoing.Going.{count_of, has_ended, has_spent}
+use Rattle.tab_facts.specs.TabGoing.Going.{count_of, has_ended}
 use Rattle.tab_ids.specs.declared.DocId.{DocId}
 use Rattle.tab_ids.specs.declared.NavId.{NavId}
 use Rattle.tab_ids.specs.declared.ProcId.{ProcId}
@@ -212,9 +213,6 @@ module _ (s : Seen) (t : Tables) (queue : Queue) (blame : List (StateId × ReqId
           let never : None ≡ Some change = sym none ∙ ap (λ (x : Asked). x.change) its ∙ is in
           absurd cc
 
-  spent_before : has_spent (make asked.q) ≡ false
-  spent_before = rw (asked.unended, asked.what) refl
-
   counts : (test : Asked → Bool) → ((x : Asked) → test (make x) ≡ test x) → ((x : Asked) → test (with_change x) ≡ test x) → ((x : Asked) → test (took x) ≡ test x) → test (make asked.q) ≡ false → test (apply (make asked.q)) ≡ true → count_of test n.requests ≡ count_of test s.requests + 1
   counts test one three four before then =
       count_same test _ poke.req took (λ x at. four x)
@@ -236,7 +234,6 @@ module _ (s : Seen) (t : Tables) (queue : Queue) (blame : List (StateId × ReqId
         states = refl;
         entries = refl;
         initial = refl;
-        spent = (let more : count_of has_spent n.requests ≡ count_of has_spent s.requests + 1 = counts has_spent (λ x. refl) (λ x. refl) (λ x. refl) spent_before refl in omega (arith, more));
         ended = (let more : count_of has_ended n.requests ≡ count_of has_ended s.requests + 1 = counts has_ended (λ x. refl) (λ x. refl) (λ x. refl) (ap is_some asked.unended) refl in omega (arith, more));
         long = as_many _ poke.req took ∙ as_many _ poke.req with_change ∙ as_many edits.requests poke.req apply ∙ as_many s.requests poke.req make;
         step = rw no_step refl;
@@ -269,7 +266,7 @@ module _ (s : Seen) (t : Tables) (queue : Queue) (blame : List (StateId × ReqId
 
 -- ---- the event, of the log itself
 
-module _ (e : InEvent) (t : Tables) (queue : Queue) (blame : List (StateId × ReqId)) {check : InCheck} (stands : StandsFor check (seen_start e) t queue blame) (lasts : LastsInLog e.checking e.start) (asks : ChecksStand e.checking e.start t.checks) (room : HasRoomFor e.start) (proc : ProcId) (poke : Poke) (first : slice_get (desk_of e.start proc).input 0 ≡ Some poke) (d : Document) (view : View) (found : document_of e.start poke.doc ≡ Some d) (has : d.view ≡ Some view) (runs : view.running ≡ true) (makes : made_by view poke.action ≡ Some whats.Edit) where
+module _ (e : InEvent) (t : Tables) (queue : Queue) (blame : List (StateId × ReqId)) {check : InCheck} (stands : StandsFor check (seen_start e) t queue blame) (lasts : LastsInLog e.checking t.asking e.start) (asks : ChecksStand e.checking e.start t.checks) (room : HasRoomFor e.start) (proc : ProcId) (poke : Poke) (first : slice_get (desk_of e.start proc).input 0 ≡ Some poke) (d : Document) (view : View) (found : document_of e.start poke.doc ≡ Some d) (has : d.view ≡ Some view) (runs : view.running ≡ true) (makes : made_by view poke.action ≡ Some whats.Edit) where
   abbrev edit_ : Made
   edit_ = made_for view poke.req whats.Edit
 
@@ -297,12 +294,14 @@ module _ (e : InEvent) (t : Tables) (queue : Queue) (blame : List (StateId × Re
         then_sound = stands.between.tab.sound;
       }
 
-  edit_lasts : LastsInLog e.checking (next edits_log e.event (actors.Proc proc) (rows.Applied poke.req kinds.Edit))
+  edit_lasts : LastsInLog e.checking t.asking (next edits_log e.event (actors.Proc proc) (rows.Applied poke.req kinds.Edit))
   edit_lasts =
       record {
         checks =
-            row_checks e.checking edits_log (record { event = e.event; actor = actors.Proc proc; row = rows.Applied poke.req kinds.Edit }) off tt
+            row_checks e.checking edits_log (record { event = e.event; actor = actors.Proc proc; row = rows.Applied poke.req kinds.Edit }) off (tt, tt)
             (row_checks e.checking e.start (record { event = e.event; actor = actors.Proc proc; row = rows.Made proc edit_ }) tt tt lasts.checks);
+        asking =
+            row_asking e.checking edits_log e.event (actors.Proc proc) t.asking (row_asking e.checking e.start e.event (actors.Proc proc) t.asking lasts.asking (rows.Made proc edit_) tt) (rows.Applied poke.req kinds.Edit) off;
         shows = coord_under edits_log e.event (actors.Proc proc) (rows.Applied poke.req kinds.Edit) tt (record { start = e.start; now = edits_log; done = []; later = [] }) refl refl (made_under e.start e.event (actors.Proc proc) proc edit_ lasts.shows);
         duly = change_duly edits_log e.event (actors.Proc proc) (row_duly e.start e.event (actors.Proc proc) lasts.duly (rows.Made proc edit_) tt) poke.req kinds.Edit edit_fits tt;
         known =

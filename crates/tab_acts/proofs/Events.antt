@@ -40,11 +40,11 @@ module _ (e : InEvent) (actor : Actor) (kind : RowKind) (by : e.actor ≡ actor)
       now_then = now_is e [] ∙ ap (λ (s : Seen). unasked e.checking s) log_is ∙ read
 
       -- an event of this row alone
-      pub alone_acts : (t : Tables) (queue : Queue) (blame : List (StateId × ReqId)) → {check : InCheck} → StandsFor check (next (seen_start e) e.event actor there) t queue blame → LastsInLog e.checking (next e.start e.event actor kind) → IsBeside e.start (record { event = e.event; actor = actor; row = kind }) → ChecksStand e.checking e.start t.checks → Passes e.header (record { start = e.start; now = e.start; done = []; later = [] }) (record { event = e.event; actor = actor; row = kind }) → HasActed check e [] t queue blame
+      pub alone_acts : (t : Tables) (queue : Queue) (blame : List (StateId × ReqId)) → {check : InCheck} → StandsFor check (next (seen_start e) e.event actor there) t queue blame → LastsInLog e.checking t.asking (next e.start e.event actor kind) → IsBeside e.start (record { event = e.event; actor = actor; row = kind }) → ChecksStand e.checking e.start t.checks → Passes e.header (record { start = e.start; now = e.start; done = []; later = [] }) (record { event = e.event; actor = actor; row = kind }) → HasActed check e [] t queue blame
       alone_acts t queue blame {check} stands lasts beside asks passes =
           record {
             stands = subst (λ (s : Seen). StandsFor check s t queue blame) (sym now_then) stands;
-            lasts = subst (λ (s : Seen). LastsInLog e.checking s) (sym log_is) lasts;
+            lasts = subst (λ (s : Seen). LastsInLog e.checking t.asking s) (sym log_is) lasts;
             asks = subst (λ (s : Seen). ChecksStand e.checking s t.checks) (sym log_is) (beside_stands e.checking e.start (record { event = e.event; actor = actor; row = kind }) t.checks beside asks);
             passes = uncut_pass e [] [] uncut (subst (λ (r : LogRow). EachPass (start_of e) (r ∷ []) []) (sym own_row) (passes, tt));
           }
@@ -66,11 +66,11 @@ module _ (e : InEvent) (actor : Actor) (kind : RowKind) (by : e.actor ≡ actor)
             ∙ ap (λ (x : Seen). next x e.event e.actor second) now_then
             ∙ ap (λ (a : Actor). next (next (seen_start e) e.event actor there) e.event a second) by
 
-        pub two_act : (t : Tables) (queue : Queue) (blame : List (StateId × ReqId)) → {check : InCheck} → StandsFor check (next (next (seen_start e) e.event actor there) e.event actor second) t queue blame → LastsInLog e.checking (next (next e.start e.event actor kind) e.event actor second) → IsBeside e.start (record { event = e.event; actor = actor; row = kind }) → IsBeside (next e.start e.event actor kind) (record { event = e.event; actor = actor; row = second }) → ChecksStand e.checking e.start t.checks → EachPass (start_of e) ((let r : LogRow = record { event = e.event; actor = actor; row = kind } in r) ∷ (let r : LogRow = record { event = e.event; actor = actor; row = second } in r) ∷ []) [] → HasActed check e (second ∷ []) t queue blame
+        pub two_act : (t : Tables) (queue : Queue) (blame : List (StateId × ReqId)) → {check : InCheck} → StandsFor check (next (next (seen_start e) e.event actor there) e.event actor second) t queue blame → LastsInLog e.checking t.asking (next (next e.start e.event actor kind) e.event actor second) → IsBeside e.start (record { event = e.event; actor = actor; row = kind }) → IsBeside (next e.start e.event actor kind) (record { event = e.event; actor = actor; row = second }) → ChecksStand e.checking e.start t.checks → EachPass (start_of e) ((let r : LogRow = record { event = e.event; actor = actor; row = kind } in r) ∷ (let r : LogRow = record { event = e.event; actor = actor; row = second } in r) ∷ []) [] → HasActed check e (second ∷ []) t queue blame
         two_act t queue blame {check} stands lasts beside on_beside asks passes =
             record {
               stands = subst (λ (s : Seen). StandsFor check s t queue blame) (sym now_on) stands;
-              lasts = subst (λ (s : Seen). LastsInLog e.checking s) (sym log_then) lasts;
+              lasts = subst (λ (s : Seen). LastsInLog e.checking t.asking s) (sym log_then) lasts;
               asks = subst (λ (s : Seen). ChecksStand e.checking s t.checks) (sym log_then) then_;
               passes =
                   uncut_pass e (second ∷ []) [] uncut

@@ -1,4 +1,5 @@
 -- A process finishes an order that sends a document to a fragment, and the document makes an entry of it: the coordinator has acted, which does nothing itself, whoever is in a check.
+use Rattle.tab_doors.proofs.AskingLoads.{row_asking}
 use Rattle.asking_facts.proofs.Passed.{known_on, known_passed}
 use Rattle.tab_stands.proofs.Logged.{once_of}
 use Rattle.seen_facts.proofs.Coord.Held.{held_apart, on_else}
@@ -56,7 +57,7 @@ use Rattle.tab_facts.proofs.TabEvents.Left.{but_of, left_twice}
 use Rattle.tab_facts.proofs.TabEvents.Rows.{finished_left, made_left}
 use Rattle.tab_facts.proofs.TabEvents.Working.{fragment_made_between}
 use Rattle.tab_facts.proofs.TabGoing.Counts.{as_many, count_same}
-use Rattle.tab_facts.specs.TabGoing.Going.{count_of, has_ended, has_spent}
+use Rattle.tab_facts.specs.TabGoing.Going.{count_of, has_ended}
 use Rattle.tab_ids.specs.declared.DocId.{DocId}
 use Rattle.tab_ids.specs.declared.NavId.{NavId}
 use Rattle.tab_ids.specs.declared.ProcId.{ProcId}
@@ -214,7 +215,6 @@ module _ (s : Seen) (event : ℕ) (t : Tables) (queue : Queue) (blame : List (St
         states = refl;
         entries = refl;
         initial = refl;
-        spent = (let same : count_of has_spent n.requests ≡ count_of has_spent s.requests = same_count has_spent (λ q. refl) (λ q. refl) in omega (arith, same));
         ended = (let same : count_of has_ended n.requests ≡ count_of has_ended s.requests = same_count has_ended (λ q. refl) (λ q. refl) in omega (arith, same));
         long = ap (λ (l : List Asked). length l) requests_are ∙ as_many (on_request req found s.requests) req with_made ∙ as_many s.requests req found;
         step = refl;
@@ -305,7 +305,7 @@ module _ (s : Seen) (event : ℕ) (t : Tables) (queue : Queue) (blame : List (St
 
 -- ---- the event, of the log itself
 
-module _ (e : InEvent) (t : Tables) (queue : Queue) (blame : List (StateId × ReqId)) {check : InCheck} (stands : StandsFor check (seen_start e) t queue blame) (lasts : LastsInLog e.checking e.start) (asks : ChecksStand e.checking e.start t.checks) (room : HasRoomFor e.start) (proc : ProcId) (order : Order) (req : ReqId) (mode : Mode) (address : List ℕ) (d : Document) (view : View) (to : IsToFragment e.start proc order req mode address d view) where
+module _ (e : InEvent) (t : Tables) (queue : Queue) (blame : List (StateId × ReqId)) {check : InCheck} (stands : StandsFor check (seen_start e) t queue blame) (lasts : LastsInLog e.checking t.asking e.start) (asks : ChecksStand e.checking e.start t.checks) (room : HasRoomFor e.start) (proc : ProcId) (order : Order) (req : ReqId) (mode : Mode) (address : List ℕ) (d : Document) (view : View) (to : IsToFragment e.start proc order req mode address d view) where
   abbrev its_made : Made
   its_made = made_for view req (fragment_of view mode address)
 
@@ -361,12 +361,14 @@ module _ (e : InEvent) (t : Tables) (queue : Queue) (blame : List (StateId × Re
   both_pass : EachPass (start_of e) ((let r : LogRow = record { event = e.event; actor = actors.Proc proc; row = rows.Finished proc order.job.nr outcomes.Fragmented } in r) ∷ (let r : LogRow = record { event = e.event; actor = actors.Proc proc; row = rows.Made proc (made_for view req (fragment_of view mode address)) } in r) ∷ []) []
   both_pass = fragment_event_passes e.header e.start e.event proc order req mode address d view in_hand its_load.q its_load.found its_load.unmade
 
-  fragment_lasts : LastsInLog e.checking (next half_log e.event (actors.Proc proc) (rows.Made proc (made_for view req (fragment_of view mode address))))
+  fragment_lasts : LastsInLog e.checking t.asking (next half_log e.event (actors.Proc proc) (rows.Made proc (made_for view req (fragment_of view mode address))))
   fragment_lasts =
       record {
         checks =
             row_checks e.checking half_log (record { event = e.event; actor = actors.Proc proc; row = rows.Made proc its_made }) tt tt
             (row_checks e.checking e.start (record { event = e.event; actor = actors.Proc proc; row = rows.Finished proc order.job.nr outcomes.Fragmented }) tt tt lasts.checks);
+        asking =
+            row_asking e.checking half_log e.event (actors.Proc proc) t.asking (row_asking e.checking e.start e.event (actors.Proc proc) t.asking lasts.asking (rows.Finished proc order.job.nr outcomes.Fragmented) tt) (rows.Made proc its_made) tt;
         shows = made_under half_log e.event (actors.Proc proc) proc its_made (finished_under e.start e.event (actors.Proc proc) proc order.job.nr outcomes.Fragmented lasts.shows);
         duly = row_duly half_log e.event (actors.Proc proc) (finished_duly e.start e.event (actors.Proc proc) lasts.duly proc order outcomes.Fragmented to.in_hand (λ slot is. cc)) (rows.Made proc its_made) tt;
         known =

@@ -47,7 +47,7 @@ use Rattle.tab_facts.proofs.TabEvents.Left.{IsLeftBut}
 use Rattle.tab_facts.proofs.TabEvents.Requests.{IsSo}
 use Rattle.tab_facts.specs.TabEvents.Between.{IsBetweenChecks}
 use Rattle.tab_facts.proofs.TabGoing.Steps.{steps_still}
-use Rattle.tab_facts.specs.TabGoing.Going.{AreHeldUp, IsGoing, count_of, has_ended, has_spent}
+use Rattle.tab_facts.specs.TabGoing.Going.{AreHeldUp, IsGoing, count_of, has_ended}
 use Rattle.tab_ids.specs.declared.DocId.{DocId}
 use Rattle.tab_ids.specs.declared.NavId.{NavId}
 use Rattle.tab_ids.specs.declared.ReqId.{ReqId}
@@ -81,7 +81,6 @@ pub record StaysTold (s n : Seen) : Type 0 where
   pub states : n.states ≡ s.states
   pub entries : n.entries ≡ s.entries
   pub initial : n.initial_states ≡ s.initial_states
-  pub spent : count_of has_spent s.requests ≤ count_of has_spent n.requests
   pub ended : count_of has_ended s.requests ≤ count_of has_ended n.requests
   pub long : length n.requests ≡ length s.requests
   -- the step that was logged last is as it was, and not all have stood since where they hadn't and don't
@@ -421,7 +420,6 @@ module _ (s : Seen) (t : Tables) (queue : Queue) (blame : List (StateId × ReqId
         tab = between.tab;
         lasting = lasting;
         counted = record {
-          states = (let low : s.states ≤ 1 + count_of has_spent s.requests = stands.lasts.counted.states in let same : n.states ≡ s.states = told.states in let more : count_of has_spent s.requests ≤ count_of has_spent n.requests = told.spent in omega (arith, low, same, more));
           entries = (let low : s.entries ≤ 1 + count_of has_ended s.requests = stands.lasts.counted.entries in let same : n.entries ≡ s.entries = told.entries in let more : count_of has_ended s.requests ≤ count_of has_ended n.requests = told.ended in omega (arith, low, same, more));
           epochs = λ nav place found. subst (λ (k : ℕ). place.epoch.0 ≤ k + 1) (sym told.jobs) (stands.lasts.counted.epochs nav place (ap (λ (l : List Place). place_in l nav) (sym left.places) ∙ found));
         };

@@ -1,4 +1,5 @@
 -- A process takes up an order, or finishes one that is no fragment order, either of which is no question: the coordinator has acted, which does nothing itself, whoever is in a check.
+use Rattle.tab_doors.proofs.AskingLoads.{row_asking}
 use Rattle.asking_facts.proofs.Passed.{known_on, known_passed}
 use Rattle.tab_stands.proofs.Logged.{once_of}
 use Rattle.seen_facts.proofs.Coord.Unread.{next}
@@ -45,7 +46,7 @@ use Rattle.tab_facts.proofs.TabEvents.Ordered.{taken_orders}
 use Rattle.tab_facts.proofs.TabEvents.Requests.{same_left}
 use Rattle.tab_facts.proofs.TabEvents.Rows.{finished_left}
 use Rattle.tab_facts.proofs.TabEvents.Working.{finished_between, taken_between}
-use Rattle.tab_facts.specs.TabGoing.Going.{count_of, has_ended, has_spent}
+use Rattle.tab_facts.specs.TabGoing.Going.{count_of, has_ended}
 use Rattle.tab_ids.specs.declared.DocId.{DocId}
 use Rattle.tab_ids.specs.declared.NavId.{NavId}
 use Rattle.tab_ids.specs.declared.ProcId.{ProcId}
@@ -90,7 +91,7 @@ module _ (s : Seen) (event : ℕ) (t : Tables) (queue : Queue) (blame : List (St
 
     took_told : StaysTold s took
     took_told =
-        record { sights = refl; ways = λ r. refl; changes = changes_kept s.requests took.requests (λ r. refl); held = refl; jobs = refl; states = refl; entries = refl; initial = refl; spent = omega arith; ended = omega arith; long = refl; step = refl; unstood = λ off away. unstood_by s (record { event = event; actor = actors.Proc proc; row = rows.Taken proc job.nr true dirty }) refl away off }
+        record { sights = refl; ways = λ r. refl; changes = changes_kept s.requests took.requests (λ r. refl); held = refl; jobs = refl; states = refl; entries = refl; initial = refl; ended = omega arith; long = refl; step = refl; unstood = λ off away. unstood_by s (record { event = event; actor = actors.Proc proc; row = rows.Taken proc job.nr true dirty }) refl away off }
 
     pub taken_stands : StandsFor check (next s event (actors.Proc proc) (rows.Taken proc job.nr true dirty)) t queue blame
     taken_stands =
@@ -181,7 +182,6 @@ module _ (s : Seen) (event : ℕ) (t : Tables) (queue : Queue) (blame : List (St
           states = refl;
           entries = refl;
           initial = refl;
-          spent = subst (λ (l : List Asked). count_of has_spent s.requests ≤ count_of has_spent l) (sym requests_same) (omega arith);
           ended = subst (λ (l : List Asked). count_of has_ended s.requests ≤ count_of has_ended l) (sym requests_same) (omega arith);
           long = ap (λ (l : List Asked). length l) requests_same;
           step = refl;
@@ -248,7 +248,7 @@ no_answer_of (tasks.Ask slot cause) (outcomes.Asked verdict) its never = absurd 
 no_answer_of (tasks.DoFragment req mode address) outcomes.Fragmented its silent = tt
 no_answer_of _ _ its silent = elim its [ ]
 
-module _ (e : InEvent) (t : Tables) (queue : Queue) (blame : List (StateId × ReqId)) {check : InCheck} (stands : StandsFor check (seen_start e) t queue blame) (lasts : LastsInLog e.checking e.start) (asks : ChecksStand e.checking e.start t.checks) (room : HasRoomFor e.start) (proc : ProcId) where
+module _ (e : InEvent) (t : Tables) (queue : Queue) (blame : List (StateId × ReqId)) {check : InCheck} (stands : StandsFor check (seen_start e) t queue blame) (lasts : LastsInLog e.checking t.asking e.start) (asks : ChecksStand e.checking e.start t.checks) (room : HasRoomFor e.start) (proc : ProcId) where
   shown_once : AreShownOnce (seen_start e).places
   shown_once = once_of lasts.shows
 
@@ -261,10 +261,11 @@ module _ (e : InEvent) (t : Tables) (queue : Queue) (blame : List (StateId × Re
     abbrev seen_first : slice_get (desk_of (seen_start e) proc).mail 0 ≡ Some job
     seen_first = mail_read e.checking e.start proc job first silent
 
-    taken_lasts : LastsInLog e.checking (next e.start e.event (actors.Proc proc) (rows.Taken proc job.nr true dirty))
+    taken_lasts : LastsInLog e.checking t.asking (next e.start e.event (actors.Proc proc) (rows.Taken proc job.nr true dirty))
     taken_lasts =
         record {
           checks = row_checks e.checking e.start (record { event = e.event; actor = actors.Proc proc; row = rows.Taken proc job.nr true dirty }) tt tt lasts.checks;
+          asking = row_asking e.checking e.start e.event (actors.Proc proc) t.asking lasts.asking (rows.Taken proc job.nr true dirty) tt;
           shows = taken_under e.start e.event (actors.Proc proc) proc job.nr true dirty lasts.shows;
           duly = row_duly e.start e.event (actors.Proc proc) lasts.duly (rows.Taken proc job.nr true dirty) tt;
           known = known_on e.start (record { event = e.event; actor = actors.Proc proc; row = rows.Taken proc job.nr true dirty }) tt tt tt tt lasts.known;
@@ -328,10 +329,11 @@ module _ (e : InEvent) (t : Tables) (queue : Queue) (blame : List (StateId × Re
           suits = rw hand slotted;
         }
 
-    finished_lasts : is_slotted e.header order.job.task outcome ≡ true → LastsInLog e.checking (next e.start e.event (actors.Proc proc) (rows.Finished proc order.job.nr outcome))
+    finished_lasts : is_slotted e.header order.job.task outcome ≡ true → LastsInLog e.checking t.asking (next e.start e.event (actors.Proc proc) (rows.Finished proc order.job.nr outcome))
     finished_lasts slotted =
         record {
           checks = row_checks e.checking e.start (record { event = e.event; actor = actors.Proc proc; row = rows.Finished proc order.job.nr outcome }) tt tt lasts.checks;
+          asking = row_asking e.checking e.start e.event (actors.Proc proc) t.asking lasts.asking (rows.Finished proc order.job.nr outcome) tt;
           shows = finished_under e.start e.event (actors.Proc proc) proc order.job.nr outcome lasts.shows;
           duly = finished_duly e.start e.event (actors.Proc proc) lasts.duly proc order outcome hand unmade_log;
           known = known_passed e.header (record { start = e.start; now = e.start; done = []; later = [] }) (record { event = e.event; actor = actors.Proc proc; row = rows.Finished proc order.job.nr outcome }) (finished_passes slotted) tt lasts.known;

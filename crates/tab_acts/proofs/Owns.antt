@@ -1,4 +1,5 @@
 -- What is known of the log as an event's own row was logged, whoever is in a check: a request was accepted, a document evicted, or a report delivered that tells no answer and no death.
+use Rattle.load_table.specs.declared.load.Load.{Load}
 use Rattle.asking_facts.proofs.Owns.{accepted_duly, evicted_duly, report_duly}
 use Rattle.checking_facts.proofs.Rows.{no_one}
 use Rattle.checking_facts.proofs.Settles.{silent_waits}
@@ -131,7 +132,7 @@ plain_told documents places proc (reports.Done job outcome made) told is its = b
 
 -- ---- the own row
 
-module _ (e : InEvent) (checks : List (ReqId × OpenCheck)) (uncut : e.before ≡ []) (undue : (end : Seen) → e.due end ≡ true) (lasts : LastsInLog e.checking e.start) (asks : ChecksStand e.checking e.start checks) where
+module _ (e : InEvent) (checks : List (ReqId × OpenCheck)) (uncut : e.before ≡ []) (undue : (end : Seen) → e.due end ≡ true) {table : List Load} (lasts : LastsInLog e.checking table e.start) (asks : ChecksStand e.checking e.start checks) where
   -- what is so behind it
   behind : (P : Seen → Type 0) (kind : RowKind) → e.own ≡ kind → P (after e.start (row_of e kind)) → P (log_of e [])
   behind P kind own is =
@@ -156,7 +157,7 @@ module _ (e : InEvent) (checks : List (ReqId × OpenCheck)) (uncut : e.before �
   -- ---- a request was accepted, which isn't in its check
 
   module _ (req : ReqId) (doc : Option DocId) (what : Request) (own : e.own ≡ rows.Accepted req doc what) (next : req.0 ≡ length e.start.requests + 1) (outside : e.checking req ≡ false) where
-    pub accepted_log : LastsInLog e.checking (log_of e [])
+    pub accepted_log : LastsInLog e.checking table (log_of e [])
     accepted_log =
         accepted_lasts e uncut (ap leads own) (none_taken (rows.Accepted req doc what) own (λ proc is. cc)) lasts req doc what own next outside
 
@@ -176,7 +177,7 @@ module _ (e : InEvent) (checks : List (ReqId × OpenCheck)) (uncut : e.before �
   -- ---- a document was evicted
 
   module _ (state : StateId) (own : e.own ≡ rows.Evicted state) where
-    pub evicted_log : LastsInLog e.checking (log_of e [])
+    pub evicted_log : LastsInLog e.checking table (log_of e [])
     evicted_log =
         evicted_lasts e uncut (ap leads own) (none_taken (rows.Evicted state) own (λ proc is. cc)) lasts state own
 
@@ -222,7 +223,7 @@ module _ (e : InEvent) (checks : List (ReqId × OpenCheck)) (uncut : e.before �
           unheld = unheld_own e.checking e.start lasts.checks;
         }
 
-    pub delivered_log : LastsInLog e.checking (log_of e [])
+    pub delivered_log : LastsInLog e.checking table (log_of e [])
     delivered_log =
         delivered_lasts e uncut (ap leads delivery.own) alive lasts proc delivery.own
       where
@@ -251,7 +252,7 @@ module _ (e : InEvent) (checks : List (ReqId × OpenCheck)) (uncut : e.before �
         none_settled : list_all (λ (q : Asked). not (is_settled_by e.start (after e.start (delivered_row e.event proc)) q)) e.start.requests ≡ true
         none_settled = still_unsettled e.start (after e.start (delivered_row e.event proc)) beside.gone beside.reads asks.has.numbered
 
-    pub delivered_logged : HasLogged e checks
+    pub delivered_logged : HasLogged e checks table
     delivered_logged =
         with_lawful e checks (record {
           uncut = uncut;

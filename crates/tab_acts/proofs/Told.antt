@@ -1,4 +1,5 @@
 -- The report of an order that neither made nor showed a document is taken: where no document is left to be discarded, the coordinator has acted, which does nothing itself, whoever is in a check.
+use Rattle.tab_doors.proofs.AskingLoads.{row_asking}
 use Rattle.asking_facts.proofs.Passed.{known_on}
 use Rattle.tab_stands.proofs.Logged.{once_of}
 use Rattle.tab_stands.specs.Offs.{AreShownOnce}
@@ -49,7 +50,7 @@ use Rattle.tab_facts.proofs.TabEvents.Requests.{lean, same_left}
 use Rattle.tab_facts.proofs.TabWhole.Delivering.{done_flows, fine}
 use Rattle.tab_facts.proofs.Last.Rows.{delivered_lasting}
 use Rattle.tab_facts.specs.TabEvents.Between.{AreSwept, IsBetweenChecks}
-use Rattle.tab_facts.specs.TabGoing.Going.{count_of, has_ended, has_spent}
+use Rattle.tab_facts.specs.TabGoing.Going.{count_of, has_ended}
 use Rattle.seen_facts.specs.Coord.Leading.{held_back}
 use Rattle.seen_facts.specs.Rest.Between.{IsOfLoad}
 use Rattle.tab_ids.specs.declared.DocId.{DocId}
@@ -94,7 +95,7 @@ alive_plain (Some (reports.Made made)) plain = tt
 alive_plain (Some (reports.Died death)) never = absurd never
 alive_plain (Some (reports.Done job outcome made)) plain = tt
 
-module _ (e : InEvent) (proc : ProcId) (job : Job) (outcome : Outcome) (del : IsSeenDelivery e proc (reports.Done job outcome None)) (t : Tables) (queue : Queue) (blame : List (StateId × ReqId)) {check : InCheck} (stands : StandsFor check (seen_start e) t queue blame) (lasts : LastsInLog e.checking e.start) (asks : ChecksStand e.checking e.start t.checks) (room : HasRoomFor e.start) (uncut : e.before ≡ []) (quiet : IsQuietTask job.task) (clear : blame ≡ []) where
+module _ (e : InEvent) (proc : ProcId) (job : Job) (outcome : Outcome) (del : IsSeenDelivery e proc (reports.Done job outcome None)) (t : Tables) (queue : Queue) (blame : List (StateId × ReqId)) {check : InCheck} (stands : StandsFor check (seen_start e) t queue blame) (lasts : LastsInLog e.checking t.asking e.start) (asks : ChecksStand e.checking e.start t.checks) (room : HasRoomFor e.start) (uncut : e.before ≡ []) (quiet : IsQuietTask job.task) (clear : blame ≡ []) where
   -- the own row is read off where nobody is asked
   read : unasked e.checking (next e.start e.event actors.Coord (rows.Delivered proc)) ≡ next (seen_start e) e.event actors.Coord (rows.Delivered proc)
   read =
@@ -149,7 +150,6 @@ module _ (e : InEvent) (proc : ProcId) (job : Job) (outcome : Outcome) (del : Is
         states = refl;
         entries = refl;
         initial = refl;
-        spent = subst (λ (l : List Asked). count_of has_spent s.requests ≤ count_of has_spent l) (sym asked) (omega arith);
         ended = subst (λ (l : List Asked). count_of has_ended s.requests ≤ count_of has_ended l) (sym asked) (omega arith);
         long = ap (λ (l : List Asked). length l) asked;
         step = refl;
@@ -211,10 +211,11 @@ module _ (e : InEvent) (proc : ProcId) (job : Job) (outcome : Outcome) (del : Is
   beside : IsBeside e.start (record { event = e.event; actor = actors.Coord; row = rows.Delivered proc })
   beside = told_beside e.start e.event actors.Coord proc plain
 
-  told_lasts : LastsInLog e.checking (next e.start e.event actors.Coord (rows.Delivered proc))
+  told_lasts : LastsInLog e.checking t.asking (next e.start e.event actors.Coord (rows.Delivered proc))
   told_lasts =
       record {
         checks = row_checks e.checking e.start (record { event = e.event; actor = actors.Coord; row = rows.Delivered proc }) tt tt lasts.checks;
+        asking = row_asking e.checking e.start e.event actors.Coord t.asking lasts.asking (rows.Delivered proc) tt;
         shows = delivered_under e.start e.event actors.Coord proc (alive_plain (slice_get (desk_of e.start proc).reports 0) plain) lasts.shows;
         duly = row_duly e.start e.event actors.Coord lasts.duly (rows.Delivered proc) tt;
         known = known_on e.start (record { event = e.event; actor = actors.Coord; row = rows.Delivered proc }) tt tt tt tt lasts.known;

@@ -46,7 +46,7 @@ use Rattle.unload_check.specs.Checks.{OpenCheck, check_of, outcome_at}
 use Rattle.unload_check.specs.declared.check.Check.{Check}
 use Rattle.unload_check.specs.declared.check.Check.TheVariants as checks
 
-module _ (e : InEvent) (t : Tables) (queue : Queue) (blame : List (StateId × ReqId)) {check : InCheck} (stands : StandsFor check (seen_start e) t queue blame) (lasts : LastsInLog e.checking e.start) (asks : ChecksStand e.checking e.start t.checks) (uncut : e.before ≡ []) where
+module _ (e : InEvent) (t : Tables) (queue : Queue) (blame : List (StateId × ReqId)) {check : InCheck} (stands : StandsFor check (seen_start e) t queue blame) (lasts : LastsInLog e.checking t.asking e.start) (asks : ChecksStand e.checking e.start t.checks) (uncut : e.before ≡ []) where
   -- ---- a process takes up a question
 
   pub taken_acts : (proc : ProcId) (job : Job) (live dirty : Bool) → e.actor ≡ actors.Proc proc → e.own ≡ rows.Taken proc job.nr live dirty → (desk_of e.start proc).in_hand ≡ None → slice_get (desk_of e.start proc).mail 0 ≡ Some job → is_question job.task ≡ true → live ≡ (job.incarnation == length (desk_of e.start proc).killed) → dirty ≡ holds (λ (d : Document). holds (λ (view : View). view.dirty) d.view) (document_of e.start job.doc) → HasActed check e [] t queue blame
@@ -93,7 +93,7 @@ module _ (e : InEvent) (t : Tables) (queue : Queue) (blame : List (StateId × Re
     heard_quiet : unasked e.checking heard_then ≡ quiet e t queue blame stands
     heard_quiet = delivered_quiet e.checking e.start e.event actors.Coord proc job verdict tells.first question
 
-    heard_lasts : LastsInLog e.checking heard_then
+    heard_lasts : LastsInLog e.checking t.asking heard_then
     heard_lasts = delivered_lasts taking refl refl alive lasts proc refl
       where
         alive : (p : ProcId) → delivers ≡ rows.Delivered p → NoDeath (slice_get (desk_of e.start p).reports 0)
@@ -166,7 +166,7 @@ module _ (e : InEvent) (t : Tables) (queue : Queue) (blame : List (StateId × Re
         pub prompt_acts : HasActed check e (rows.Prompted r doc ∷ []) (record t { checks = told_of job verdict r t.checks }) queue blame
         prompt_acts =
             subst (λ (x : InEvent). HasActed check x out (record t { checks = told }) queue blame) (plain_is e actors.Coord delivers is.by_coord is.own uncut) (record {
-              stands = subst (λ (x : Seen). StandsFor check x (record t { checks = told }) queue blame) (sym (now_is taking out ∙ prompt_quiet)) (checks_stands (quieted (quiet e t queue blame stands) e.event (quiet e t queue blame stands).has_stood) t told queue blame (quiet_stands (quiet e t queue blame stands) e.event (quiet e t queue blame stands).has_stood t queue blame (stands_quiet e t queue blame stands) (λ off away. off)));
+              stands = subst (λ (x : Seen). StandsFor check x (record t { checks = told }) queue blame) (sym (now_is taking out ∙ prompt_quiet)) (checks_stands (quieted (quiet e t queue blame stands) e.event (quiet e t queue blame stands).has_stood) t told t.asking queue blame (quiet_stands (quiet e t queue blame stands) e.event (quiet e t queue blame stands).has_stood t queue blame (stands_quiet e t queue blame stands) (λ off away. off)));
               lasts = prompted_lasts e.checking heard_then e.event actors.Coord heard_lasts r doc (on_of e.checking e.start t.checks asks r q found in_check) (prompts.prompt_known e.header e.start e.event e.checking proc job verdict r tells t.checks asks lasts.known q found in_check open_ doc noted);
               asks = prompts.prompt_asks e.header e.start e.event e.checking proc job verdict r tells t.checks asks lasts.known q found in_check open_ doc noted;
               passes = prompts.prompt_pass e.header e.start e.event e.checking proc job verdict r tells t.checks asks lasts.known q found in_check open_ doc noted;

@@ -46,10 +46,10 @@ module _ (e : InEvent) (t : Tables) (queue : Queue) (blame : List (StateId × Re
     abbrev row : LogRow
     row = record { event = e.event; actor = actor; row = kind }
 
-    pub alone_acts : (checks : List (ReqId × OpenCheck)) → unasked e.checking (after e.start row) ≡ quiet → LastsInLog e.checking (after e.start row) → ChecksStand e.checking (after e.start row) checks → EachPass (start_of (plain e actor kind)) (rows_of (plain e actor kind) []) [] → HasActed check e [] (record t { checks = checks }) queue blame
+    pub alone_acts : (checks : List (ReqId × OpenCheck)) → unasked e.checking (after e.start row) ≡ quiet → LastsInLog e.checking t.asking (after e.start row) → ChecksStand e.checking (after e.start row) checks → EachPass (start_of (plain e actor kind)) (rows_of (plain e actor kind) []) [] → HasActed check e [] (record t { checks = checks }) queue blame
     alone_acts checks seen lasts asks passes =
         subst (λ (x : InEvent). HasActed check x [] (record t { checks = checks }) queue blame) (plain_is e actor kind by own uncut) (record {
-          stands = subst (λ (x : Seen). StandsFor check x (record t { checks = checks }) queue blame) (sym (now_is (plain e actor kind) [] ∙ seen)) (checks_stands quiet t checks queue blame stands_quiet);
+          stands = subst (λ (x : Seen). StandsFor check x (record t { checks = checks }) queue blame) (sym (now_is (plain e actor kind) [] ∙ seen)) (checks_stands quiet t checks t.asking queue blame stands_quiet);
           lasts = lasts;
           asks = asks;
           passes = passes;

@@ -92,7 +92,7 @@ module _ (s : Seen) (event : ℕ) (stood : Bool) where
       }
 
   pub counted_quiet : AreCounted s → AreCounted n
-  counted_quiet are = record { states = are.states; entries = are.entries; epochs = are.epochs }
+  counted_quiet are = record { entries = are.entries; epochs = are.epochs }
 
   pub steps_quiet : AreSteps s → AreSteps n
   steps_quiet are = record { rows_ = are.rows_; current = are.current }

@@ -1,4 +1,5 @@
--- The coordinator's tables stand for the log with another table of unload checks, as that stands for another part of it.
+-- The coordinator's tables stand for the log with another table of unload checks, and of the loads in them, as these stand for another part of it.
+use Rattle.load_table.specs.declared.load.Load.{Load}
 use Rattle.load_doors.specs.Tied.{AreTied}
 use Rattle.log_model.specs.Seen.{Seen}
 use Rattle.move_queue.specs.Queue.{Queue}
@@ -9,10 +10,10 @@ use Rattle.tab_ids.specs.declared.StateId.{StateId}
 use Rattle.tab_stands.specs.Standing.{InCheck, StandsFor}
 use Rattle.unload_check.specs.Checks.{OpenCheck}
 
-module _ (s : Seen) (t : Tables) (checks : List (ReqId × OpenCheck)) where
-  -- the tables with these checks
+module _ (s : Seen) (t : Tables) (checks : List (ReqId × OpenCheck)) (asking : List Load) where
+  -- the tables with these checks, and these loads in their checks
   abbrev pub with_checks : Tables
-  with_checks = record t { checks = checks }
+  with_checks = record t { asking = asking; checks = checks }
 
   tied_then : AreTied s t → AreTied s with_checks
   tied_then tied =

@@ -1,4 +1,5 @@
 -- An event of the coordinator ends with a traversal that begins and asks: the coordinator stands for what the log would have come to had nobody been asked, with the traversal in its check, which holds the queue.
+use Rattle.tab_doors.specs.AskingLoads.{TiesAsking}
 use Rattle.tab_doors.proofs.Wanted.{come_end, wanted_end}
 use Rattle.asking_facts.proofs.ApartDue.{due_apart}
 use Rattle.asking_facts.proofs.Closing.{pass_asked}
@@ -229,10 +230,11 @@ module _ (p : InPass) (out : List RowKind) (t : Tables) (queue : Queue) (blame :
     calm : IsCalm s
     calm = subst (λ (r : Option ReqId). IsCalmAfter r s) over.idle at.calm
 
-    lasts : LastsInLog entered behind
+    lasts : LastsInLog entered u.asking behind
     lasts =
         record {
           checks = at_log (λ (x : Seen). AreInCheck entered x) goes.work.checks;
+          asking = at_log (λ (x : Seen). TiesAsking entered x u.asking) goes.work.asking;
           shows = event_under e rows_then [] passes.1 (both_coord out (begun_asking req (Some goal) jobs) of_coord (questions_coord jobs req (Some goal))) shows;
           duly = asked_duly e out e.checking before.lasts.duly sound_log hangs_bare homes_bare (at_bare IsCalm calm) req goal q over.first.at may.goes jobs asking.are;
           known = known_begun e out req (Some goal) questions jobs q may.asks asking.are (due_apart log e.checking sound_log hangs_bare homes_bare.homed q.what (Some goal)) before.lasts.known;

@@ -46,7 +46,6 @@ module _ (s : Seen) (event jobs : ℕ) where
   counted_stays : s.jobs ≤ jobs → AreCounted s → AreCounted n
   counted_stays more are =
       record {
-        states = are.states;
         entries = are.entries;
         epochs = λ nav place at. (let low : place.epoch.0 ≤ s.jobs + 1 = are.epochs nav place at in omega (arith, low, more));
       }

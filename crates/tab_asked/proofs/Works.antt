@@ -1,4 +1,7 @@
 -- A traversal has begun and asked, as the tables tell: the event is cut there, and its coordinator goes on working.
+use Rattle.tab_doors.specs.PassedOn.{Load}
+use Rattle.tab_cuts.proofs.Asking.{asking_begun}
+use Rattle.tab_doors.specs.AskingLoads.{TiesAsking}
 use Rattle.asking_facts.specs.Asking.{AreQuestions, AreQuestionsFrom, AreSome}
 use Rattle.asking_facts.specs.Known.{IsAskable}
 use Rattle.asking_facts.specs.Noting.{IsAllTied}
@@ -82,11 +85,20 @@ module _ (e : InEvent) (out : List RowKind) (t : Tables) (work : IsAtWork e out 
   jobs_are =
       begun.begun_jobs e out req (Some goal) jobs ∙ sym (ap (λ (x : Seen). x.jobs + length jobs) (now_is e out))
 
+  -- the loads in their checks are those of before
+  asking_same : u.asking ≡ t.asking
+  asking_same = ap (λ (x : Tables). x.asking) is.only
+
+  asking_then : TiesAsking entered behind u.asking
+  asking_then =
+      subst (λ (l : List Load). TiesAsking entered behind l) (sym asking_same) (asking_begun e out t e.checking entered work.asking req (Some goal) q may.asks.at (no_load q.what may.goes) same may.off on jobs)
+
   -- the tables count them
   counted_so : u ≡ counted (now_of e out) e.event behind.jobs behind.states None t u
   counted_so =
       is.only
       ∙ ap (λ (n : ℕ). let x : Tables = record t { sent = u.sent; states = n; checks = u.checks } in x) (sym (ap (λ (x : Tables). x.states) is.only))
+      ∙ ap (λ (l : List Load). let x : Tables = record t { sent = u.sent; states = u.states; asking = l; checks = u.checks } in x) (sym asking_same)
 
   sent_so : length u.sent.items ≡ behind.jobs + 1
   sent_so =
@@ -104,7 +116,7 @@ module _ (e : InEvent) (out : List RowKind) (t : Tables) (work : IsAtWork e out 
   pub goes_on : IsAllTied log (after_all_deaths (told_by t.checks out).run (told_by t.checks out).checks) → AllWanted log → GoesOnAsking e out req goal jobs u
   goes_on settled wanted =
       record {
-        work = begun.work_begun None e out t work req (Some goal) questions jobs q may.asks are entered same may.off on askable.fresh askable.sited u counted_so sent_so states_so is.checks (all_noted e.checking e.start log (told_by t.checks out) work.asked settled wanted) some may.enters may.unbegun may.turn may.next (λ goes. may.alone) may.sole;
+        work = begun.work_begun None e out t work req (Some goal) questions jobs q may.asks are entered same may.off on askable.fresh askable.sited u counted_so sent_so states_so is.checks asking_then (all_noted e.checking e.start log (told_by t.checks out) work.asked settled wanted) some may.enters may.unbegun may.turn may.next (λ goes. may.alone) may.sole;
         owed = begun.owed_begun None e out t work req (Some goal) questions jobs q may.asks are entered same may.off on askable.fresh askable.sited;
         ties = begun.ties_begun None e out t work req (Some goal) questions jobs q may.asks are entered same may.off on askable.fresh askable.sited u counted_so sent_so states_so;
         same = now_silent;

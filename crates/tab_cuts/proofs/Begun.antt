@@ -31,6 +31,7 @@ use Rattle.tab_cuts.proofs.Twice.{AreAmong}
 use Rattle.tab_cuts.proofs.Works.{calm_beside, ties_beside, work_behind}
 use Rattle.tab_cuts.specs.Cut.{TiesCut}
 use Rattle.tab_doors.proofs.Works.{BeginsSole, soles_more}
+use Rattle.tab_doors.specs.AskingLoads.{TiesAsking}
 use Rattle.tab_doors.specs.Keeping.{Move}
 use Rattle.tab_doors.specs.Working.{IsAhead, IsAtWorkFor, IsToCome, next_shown}
 use Rattle.tab_doors.specs.declared.tables.Tables.{Tables}
@@ -159,9 +160,9 @@ module _ (move : Option Move) (e : InEvent) (out : List RowKind) (t : Tables) (w
 
   -- it is at work
   module _ (u : Tables) (is : u ≡ counted (now_of e out) e.event behind.jobs behind.states move t u) (sent : length u.sent.items ≡ behind.jobs + 1) (states : u.states ≡ behind.states) (checks : u.checks ≡ checks_begun (told_by t.checks out) req questions) where
-    pub work_begun : (notes : NotesWanted (log_of e out) (told_by t.checks out).checks) → AreSome questions → MayEnter q → list_any (begins req) (e.before ++ out) ≡ false → MayBeginTo (here_of e out) (row_of e (rows.Started req goal)) req goal q → IsNextState (log_of e out) (record { 0 = (log_of e out).states + 1 }) → (is_traversal q.what ≡ true → NoOtherUnderWay (log_of e out) req) → BeginsSole e out (rows.Started req goal) → IsAtWorkFor move then_begun [] u
-    work_begun notes some may unbegun begin next goes_not begins_sole =
-        work_behind move e (out ++ block) entered (owes_seen e out) u nobody work.own work.worker work.numbered sole debts_begun stands (ties_begun u is sent states) (calm_beside (IsToCome move then_begun []) then_begun [] (record { checks = u.checks; run = [] }) stands)
+    pub work_begun : TiesAsking entered behind u.asking → (notes : NotesWanted (log_of e out) (told_by t.checks out).checks) → AreSome questions → MayEnter q → list_any (begins req) (e.before ++ out) ≡ false → MayBeginTo (here_of e out) (row_of e (rows.Started req goal)) req goal q → IsNextState (log_of e out) (record { 0 = (log_of e out).states + 1 }) → (is_traversal q.what ≡ true → NoOtherUnderWay (log_of e out) req) → BeginsSole e out (rows.Started req goal) → IsAtWorkFor move then_begun [] u
+    work_begun asking notes some may unbegun begin next goes_not begins_sole =
+        work_behind move e (out ++ block) entered (owes_seen e out) u nobody work.own work.worker work.numbered sole debts_begun stands (ties_begun u is sent states) asking (calm_beside (IsToCome move then_begun []) then_begun [] (record { checks = u.checks; run = [] }) stands)
       where
         nobody : ReqId → Bool
         nobody r = false

@@ -51,9 +51,9 @@ module _ (s : Seen) (event jobs states : ℕ) where
       }
 
   module _ (move : Option Move) (t u : Tables) where
-    -- they are as they were, but for how many orders and document states were numbered, and the checks
+    -- they are as they were, but for how many orders and document states were numbered, the loads in their checks, and the checks
     abbrev pub counted : Tables
-    counted = record t { sent = u.sent; states = u.states; checks = u.checks }
+    counted = record t { sent = u.sent; states = u.states; asking = u.asking; checks = u.checks }
 
     holds_then : Holds (look_of s t.running) t → length u.sent.items ≡ jobs + 1 → u.states ≡ states → Holds (look_of then_ t.running) counted
     holds_then holds sent numbered =

@@ -4,5 +4,6 @@ pub mod Twice
 pub mod Debts
 pub mod Silent
 pub mod Counted
+pub mod Asking
 pub mod Begun
 pub mod Same

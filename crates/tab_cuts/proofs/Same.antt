@@ -13,7 +13,9 @@ use Rattle.tab_cuts.proofs.Owed.{loose_cut, owed_cut}
 use Rattle.tab_cuts.proofs.Silent.{noted_log}
 use Rattle.tab_cuts.proofs.Works.{ties_beside, work_behind, work_cut}
 use Rattle.tab_cuts.specs.Cut.{TiesCut}
+use Rattle.tab_doors.proofs.AskingLoads.{row_asking}
 use Rattle.tab_doors.proofs.Works.{soles_more}
+use Rattle.tab_doors.specs.AskingLoads.{TiesAsking}
 use Rattle.tab_doors.specs.Keeping.{Move}
 use Rattle.tab_doors.specs.Working.{IsAtWorkIn, IsCalmIn, IsToCome}
 use Rattle.tab_doors.specs.declared.tables.Tables.{Tables}
@@ -58,7 +60,7 @@ module _ {sweeps : Bool} (move : Option Move) (e : InEvent) (out : List RowKind)
 
   pub work_told : (but : ReqId → Bool) (u : Tables) → u ≡ record t { checks = u.checks } → StandsAsked (IsToCome move then_told []) but then_told [] (record { checks = u.checks; run = [] }) → {then_sweeps : Bool} → IsCalmIn then_sweeps e.checking (log_of then_told []) → IsAtWorkIn then_sweeps move then_told [] u
   work_told but u is stands calm =
-      work_cut move e out e.checking (owes_seen e out) u but t work (debts_same e out work.numbered work.read work.debts) stands (ties_told u is) calm
+      work_cut move e out e.checking (owes_seen e out) u but t work (debts_same e out work.numbered work.read work.debts) stands (ties_told u is) (subst (λ (x : Tables). TiesAsking e.checking (log_of e out) x.asking) (sym is) work.asking) calm
 
   -- ---- the user was asked
 
@@ -96,8 +98,8 @@ module _ {sweeps : Bool} (move : Option Move) (e : InEvent) (out : List RowKind)
         subst (λ (s : Seen). TiesCut move s u) (sym prompted_silent)
         (subst (λ (s : Seen). TiesCut move (silent (unasked e.checking (log_of e out)) e.event s.jobs s.states) u) (sym (log_more e out kind)) (ties_counted (unasked e.checking (log_of e out)) e.event (log_of e out).jobs (log_of e out).states move t u as_counted sent states (omega (arith)) (ties_beside move e out t work)))
       where
-        as_counted : u ≡ record t { sent = u.sent; states = u.states; checks = u.checks }
-        as_counted = λ i. record (is i) { sent = u.sent; states = u.states; checks = u.checks }
+        as_counted : u ≡ record t { sent = u.sent; states = u.states; asking = u.asking; checks = u.checks }
+        as_counted = λ i. record (is i) { sent = u.sent; states = u.states; asking = u.asking; checks = u.checks }
 
         sent : length u.sent.items ≡ (log_of e out).jobs + 1
         sent = subst (λ (x : Tables). length x.sent.items ≡ (log_of e out).jobs + 1) (sym is) work.holds.sent
@@ -105,6 +107,11 @@ module _ {sweeps : Bool} (move : Option Move) (e : InEvent) (out : List RowKind)
         states : u.states ≡ (log_of e out).states
         states = subst (λ (x : Tables). x.states ≡ (log_of e out).states) (sym is) work.holds.states
 
+    -- the loads in their checks are those of before
+    asking_prompted : TiesAsking e.checking behind t.asking
+    asking_prompted =
+        subst (λ (s : Seen). TiesAsking e.checking s t.asking) (sym (log_more e out kind)) (row_asking e.checking (log_of e out) e.event e.actor t.asking work.asking kind tt)
+
     pub work_prompted : (but : ReqId → Bool) (u : Tables) → u ≡ record t { checks = u.checks } → e.checking req ≡ true → StandsAsked (IsToCome move then_prompted []) but then_prompted [] (record { checks = u.checks; run = [] }) → {then_sweeps : Bool} → IsCalmIn then_sweeps e.checking (log_of then_prompted []) → IsAtWorkIn then_sweeps move then_prompted [] u
     work_prompted but u is on stands calm =
-        work_behind move e (out ++ kind ∷ []) e.checking (owes_seen e out) u but work.own work.worker work.numbered (soles_more e out kind tt work.sole) debts_prompted stands (ties_prompted u is) calm
+        work_behind move e (out ++ kind ∷ []) e.checking (owes_seen e out) u but work.own work.worker work.numbered (soles_more e out kind tt work.sole) debts_prompted stands (ties_prompted u is) (subst (λ (x : Tables). TiesAsking e.checking behind x.asking) (sym is) asking_prompted) calm

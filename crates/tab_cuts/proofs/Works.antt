@@ -9,6 +9,7 @@ use Rattle.checking_facts.specs.Prompts.{Told}
 use Rattle.log_model.specs.declared.row_kind.LogRow.{LogRow}
 use Rattle.std.proofs.Common.{Bool, List, Option, [], false, refl, subst, sym, true, ◌≡◌}
 use Rattle.tab_cuts.specs.Cut.{TiesCut}
+use Rattle.tab_doors.specs.AskingLoads.{TiesAsking}
 use Rattle.tab_doors.specs.Keeping.{Move}
 use Rattle.tab_doors.specs.Working.{IsAtWorkIn, IsCalmIn, IsToCome, IsWorker}
 use Rattle.tab_doors.specs.declared.tables.Tables.{Tables}
@@ -57,8 +58,8 @@ module _ (move : Option Move) (e : InEvent) (out : List RowKind) (checking : Req
     abbrev pub then_wanting : InEvent
     then_wanting = wanting then_ wants
 
-    pub work_wanting : leads e.own ≡ true → IsWorker e.actor → AreNumbered e.start → BeginSole e out (log_of e out) → AreDebts then_ → StandsAsked (IsToCome move then_wanting []) but then_wanting [] (record { checks = u.checks; run = [] }) → TiesCut move (unasked checking (log_of e out)) u → {sweeps : Bool} → IsCalmIn sweeps checking (log_of then_wanting []) → IsAtWorkIn sweeps move then_wanting [] u
-    work_wanting own worker numbered sole debts stands ties calm =
+    pub work_wanting : leads e.own ≡ true → IsWorker e.actor → AreNumbered e.start → BeginSole e out (log_of e out) → AreDebts then_ → StandsAsked (IsToCome move then_wanting []) but then_wanting [] (record { checks = u.checks; run = [] }) → TiesCut move (unasked checking (log_of e out)) u → TiesAsking checking (log_of e out) u.asking → {sweeps : Bool} → IsCalmIn sweeps checking (log_of then_wanting []) → IsAtWorkIn sweeps move then_wanting [] u
+    work_wanting own worker numbered sole debts stands ties asking calm =
         record {
           own = own;
           worker = worker;
@@ -77,6 +78,7 @@ module _ (move : Option Move) (e : InEvent) (out : List RowKind) (checking : Req
           few = tied.few;
           initial = tied.initial;
           loads = tied.loads;
+          asking = subst (λ (s : Seen). TiesAsking checking s u.asking) (sym (log_cut e out checking due)) asking;
           kept = tied.kept;
           asked = stands.asked;
           lawful = stands.pass;
@@ -86,10 +88,10 @@ module _ (move : Option Move) (e : InEvent) (out : List RowKind) (checking : Req
         tied = ties_wanting move then_ wants u (ties_now move e out checking due u ties)
 
   -- where no more is than was
-  pub work_behind : leads e.own ≡ true → IsWorker e.actor → AreNumbered e.start → BeginSole e out (log_of e out) → AreDebts then_ → StandsAsked (IsToCome move then_ []) but then_ [] (record { checks = u.checks; run = [] }) → TiesCut move (unasked checking (log_of e out)) u → {sweeps : Bool} → IsCalmIn sweeps checking (log_of then_ []) → IsAtWorkIn sweeps move then_ [] u
-  work_behind own worker numbered sole debts stands ties calm =
-      work_wanting then_.wants own worker numbered sole debts stands ties calm
+  pub work_behind : leads e.own ≡ true → IsWorker e.actor → AreNumbered e.start → BeginSole e out (log_of e out) → AreDebts then_ → StandsAsked (IsToCome move then_ []) but then_ [] (record { checks = u.checks; run = [] }) → TiesCut move (unasked checking (log_of e out)) u → TiesAsking checking (log_of e out) u.asking → {sweeps : Bool} → IsCalmIn sweeps checking (log_of then_ []) → IsAtWorkIn sweeps move then_ [] u
+  work_behind own worker numbered sole debts stands ties asking calm =
+      work_wanting then_.wants own worker numbered sole debts stands ties asking calm
 
   -- or behind those that its coordinator has put out so far
-  pub work_cut : {sweeps : Bool} {was : Option Move} (t : Tables) → IsAtWorkIn sweeps was e out t → AreDebts then_ → StandsAsked (IsToCome move then_ []) but then_ [] (record { checks = u.checks; run = [] }) → TiesCut move (unasked checking (log_of e out)) u → {then_sweeps : Bool} → IsCalmIn then_sweeps checking (log_of then_ []) → IsAtWorkIn then_sweeps move then_ [] u
+  pub work_cut : {sweeps : Bool} {was : Option Move} (t : Tables) → IsAtWorkIn sweeps was e out t → AreDebts then_ → StandsAsked (IsToCome move then_ []) but then_ [] (record { checks = u.checks; run = [] }) → TiesCut move (unasked checking (log_of e out)) u → TiesAsking checking (log_of e out) u.asking → {then_sweeps : Bool} → IsCalmIn then_sweeps checking (log_of then_ []) → IsAtWorkIn then_sweeps move then_ [] u
   work_cut t work = work_behind work.own work.worker work.numbered work.sole

@@ -1,4 +1,5 @@
 -- A change is put out, and the coordinator goes on working.
+use Rattle.checking_facts.proofs.Spent.{adds_unspent, unspent_at}
 use Rattle.tab_doors.proofs.Ahead.{IsStep, step_more, step_plain}
 use Rattle.tab_doors.proofs.Works.{open_undropped}
 use Rattle.unasked.proofs.Nows.{applied_goes}
@@ -124,9 +125,9 @@ module _ (e : InEvent) (out : List RowKind) (t u : Tables) (req : ReqId) (change
   take_step plain =
       step_plain e out (rows.Applied req change) (λ r. refl) due.held (take_may plain in_log in_log.by)
 
-  pub taken_work : IsNoTraverse → Holds (look_of then_ t.running) u → AreInitial then_.initial_states u.initial.entries → u.loads ≡ t.loads → u.kept ≡ t.kept → u.checks ≡ t.checks → IsAtWork e (out ++ rows.Applied req change ∷ []) u
-  taken_work plain holds initial loads kept checks =
-      work_more e out (rows.Applied req change) None t u work (applied_goes e out req change (work.checks.numbered req) off) tt off (brings_made e.checking (log_of e out) work.checks.states in_log.asked change in_log.unstarted in_log.due.due)
+  pub taken_work : IsNoTraverse → Holds (look_of then_ t.running) u → AreInitial then_.initial_states u.initial.entries → u.loads ≡ t.loads → u.kept ≡ t.kept → u.checks ≡ t.checks → u.asking ≡ t.asking → IsAtWork e (out ++ rows.Applied req change ∷ []) u
+  taken_work plain holds initial loads kept checks asking =
+      work_more e out (rows.Applied req change) None t u work (applied_goes e out req change (work.checks.numbered req) off) tt off (brings_made e.checking (log_of e out) work.checks.states in_log.asked change in_log.unstarted in_log.due.due, adds_unspent (log_of e out) req (unspent_at (log_of e out) req in_log.asked in_log.due.at in_log.due.open_ in_log.unstarted) change)
       (subst (λ (r : Option ReqId). Holds (look_of then_ r) u) (sym running) holds)
       (subst (λ (r : Option ReqId). IsRunning then_.requests r) (sym running) (runs_applied_apart (now_of e out) e.event e.actor t.running req change apart work.runs))
       (goal_on (now_of e out).requests then_.requests t u (applied_reads goal_read (now_of e out) e.event e.actor req change (λ q x. refl) (λ q x. refl) (λ q x. refl)) running goal work.goal)
@@ -137,6 +138,7 @@ module _ (e : InEvent) (out : List RowKind) (t u : Tables) (req : ReqId) (change
       (off, open_undropped (log_of e out) req in_log.asked in_log.due.at in_log.due.open_)
       (take_step plain)
       checks
+      asking
       (inl refl)
     where
       few_kept : (documents next_ : List Document) (jobs : ℕ) → length next_ ≡ length documents → length documents ≤ jobs + 1 → length next_ ≤ jobs + 1
@@ -156,7 +158,7 @@ lost_by e out t mid change lost work history is = is ∙ held_lost t.store mid.s
 
 -- what a change leaves of the tables that is but for the store and the navigables
 pub tree_changes : (t : Tables) (store : StepIndex) (tree : Tree) → Changes t (record t { store = store; tree = tree })
-tree_changes t store tree = record { making = refl; whose = refl; shown = refl; last = refl; documents = refl; sent = refl; loads = refl; kept = refl; checks = refl }
+tree_changes t store tree = record { making = refl; whose = refl; shown = refl; last = refl; documents = refl; sent = refl; loads = refl; kept = refl; checks = refl; asking = refl }
 
 module _ (e : InEvent) (out : List RowKind) (t : Tables) (req : ReqId) (nav : NavId) (entry : EntryId) (state : StateId) (address : List ℕ) (memo : Option (List ℕ)) (work : IsAtWork e out t) (awake_ : IsAwakeIn t.tree nav (record { 0 = entry.maker })) (due : IsTakeDue e out req (changes.Push nav entry state address memo)) (off : e.checking req ≡ false) (sees : SeesRows (now_of e out) (changes.Push nav entry state address memo)) (of_document : (entry.maker == 0) ≡ false) (apart : is_this t.running req ≡ false) where
   abbrev maker : DocId
@@ -205,6 +207,7 @@ module _ (e : InEvent) (out : List RowKind) (t : Tables) (req : ReqId) (nav : Na
       refl
       refl
       refl
+      refl
 
   -- so it is of the tables after the change's door
   pub push_done : (mid : Tables) (gone : List NavId) → mid ≡ record t { store = mid.store } → SameHistory (history_held mid.store) (applied (now_of e out).history push) → gone ≡ lost_of (history_held t.store).rows (history_held mid.store).rows (made_in t.tree) → IsAtWork e (out ++ rows.Applied req push ∷ []) (record mid { tree = destroy_all gone req (with_nav (λ (n : Nav). record n { told = None }) nav (with_nav (λ (n : Nav). record n { given = Some entry }) nav mid.tree)) })
@@ -244,6 +247,7 @@ module _ (e : InEvent) (out : List RowKind) (t : Tables) (req : ReqId) (nav : Na
       refl
       refl
       refl
+      refl
 
 -- ---- a frame is added
 
@@ -256,6 +260,7 @@ module _ (e : InEvent) (out : List RowKind) (t u : Tables) (req : ReqId) (owner 
       one.loads
       one.kept
       one.checks
+      one.asking
 
 -- ---- a traversal ends
 
@@ -306,7 +311,7 @@ module _ (e : InEvent) (out : List RowKind) (t u : Tables) (req : ReqId) (goal_ 
 
   pub end_work : u.tree ≡ unmove_all (made_in t.tree) t.tree → SameHistory (history_held u.store) (applied (now_of e out).history (changes.Traverse goal_)) → Changes t u → u.states ≡ t.states → u.entries ≡ t.entries → u.initial.entries ≡ t.initial.entries → u.running ≡ None → IsAtWork e (out ++ rows.Applied req (changes.Traverse goal_) ∷ []) u
   end_work tree history one states entries initial running =
-      work_more e out (rows.Applied req (changes.Traverse goal_)) None t u work (applied_goes e out req (changes.Traverse goal_) (work.checks.numbered req) off) tt off tt
+      work_more e out (rows.Applied req (changes.Traverse goal_)) None t u work (applied_goes e out req (changes.Traverse goal_) (work.checks.numbered req) off) tt off (tt, tt)
       (subst (λ (r : Option ReqId). Holds (look_of ended_ r) u) (sym running) (ended_holds (now_of e out) e.event e.actor req goal_ t u (subst (λ (r : Option ReqId). Holds (look_of (now_of e out) r) t) its work.holds) one (λ other is. is) tree history states entries))
       (subst (λ (r : Option ReqId). IsRunning ended_.requests r) (sym running) (runs_applied_own (now_of e out) e.event e.actor req (changes.Traverse goal_) (subst (λ (r : Option ReqId). IsRunning (now_of e out).requests r) its work.runs)))
       (subst (λ (r : Option ReqId). HasGoal ended_.requests r u.goal) (sym running) (goal_of_none ended_.requests u.goal))
@@ -317,6 +322,7 @@ module _ (e : InEvent) (out : List RowKind) (t u : Tables) (req : ReqId) (goal_ 
       (off, open_undropped (log_of e out) req end_log.asked end_log.due.at end_log.due.open_)
       end_step
       one.checks
+      one.asking
       (inl refl)
     where
       few_kept : (documents next_ : List Document) (jobs : ℕ) → length next_ ≡ length documents → length documents ≤ jobs + 1 → length next_ ≤ jobs + 1
@@ -333,6 +339,7 @@ module _ (e : InEvent) (out : List RowKind) (t : Tables) (req : ReqId) (nav : Na
       taken_work e out t (record t { store = store; tree = destroy_all removed_navs req t.tree }) req (changes.RemoveFrame nav) work due off apart refl refl (λ h later. refl)
       (removed_holds (now_of e out) t.running e.event e.actor req nav t work.holds store removed_navs (lost_seen (now_of e out) (changes.RemoveFrame nav) t.running t work.holds sees) history)
       work.initial
+      refl
       refl
       refl
       refl

@@ -82,6 +82,7 @@ pub record Changes (t u : Tables) : Type 0 where
   pub loads : u.loads ≡ t.loads
   pub kept : u.kept ≡ t.kept
   pub checks : u.checks ≡ t.checks
+  pub asking : u.asking ≡ t.asking
 
 -- ---- a push or replace: the navigable is given the entry
 

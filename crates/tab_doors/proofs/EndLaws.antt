@@ -55,7 +55,7 @@ history_holds l m t u documents places moved jobs states entries tree one histor
     }
 
 pub same_changes : (t : Tables) → Changes t t
-same_changes t = record { making = refl; whose = refl; shown = refl; last = refl; documents = refl; sent = refl; loads = refl; kept = refl; checks = refl }
+same_changes t = record { making = refl; whose = refl; shown = refl; last = refl; documents = refl; sent = refl; loads = refl; kept = refl; checks = refl; asking = refl }
 
 pub left_holds : (l m : Look) (t : Tables) → m.documents ≡ l.documents → m.places ≡ l.places → m.history ≡ l.history → m.moved ≡ l.moved → m.jobs ≡ l.jobs → m.states ≡ l.states → m.entries ≡ l.entries → Holds l t → Holds m t
 left_holds l m t documents places history moved jobs states entries holds =

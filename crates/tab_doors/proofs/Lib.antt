@@ -23,7 +23,9 @@ pub mod Takers
 pub mod Wanted
 pub mod Ahead
 pub mod Calm
+pub mod AskingLoads
 pub mod Works
+pub mod Rooms
 pub mod ReadOff
 pub mod LogDues
 pub mod Leavable

@@ -65,6 +65,7 @@ pub record MakesOne (nav : NavId) (state : StateId) (proc : ProcId) (doc : DocId
   pub sent : length u.sent.items ≡ length t.sent.items + 1
   pub kept : u.kept ≡ t.kept
   pub checks : u.checks ≡ t.checks
+  pub asking : u.asking ≡ t.asking
   pub initial : u.initial.entries ≡ t.initial.entries
 
 module _ (s : Seen) (run : Option ReqId) (event : ℕ) (actor : Actor) (proc : ProcId) (doc : DocId) (why : Why) (nav : NavId) (state : StateId) (address : List ℕ) (initial : Bool) where

@@ -94,6 +94,7 @@ module _ (e : InEvent) (out : List RowKind) (t u : Tables) (nav : NavId) (doc : 
       tt
       (update_step due)
       one.checks
+      one.asking
       (inl refl)
 
 -- ---- a document is to be made
@@ -135,4 +136,5 @@ module _ (e : InEvent) (out : List RowKind) (t u : Tables) (proc : ProcId) (doc 
       for_other
       (make_step due known)
       one.checks
+      one.asking
       (inl refl)

@@ -138,6 +138,7 @@ module _ {move : Option Move} (e : InEvent) (out : List RowKind) (t u : Tables) 
         for_other
         (show_step (meant move state t.kept.keep leaves))
         one.checks
+        one.asking
         (inl refl)
       where
         fused : with_nav (λ (n : Nav). record n { moved = is_some t.running }) nav (with_nav (λ (n : Nav). record n { told = Some (long, at) }) nav (with_nav (activated entry doc why) nav t.tree)) ≡ with_nav (shown_nav entry doc why (long, at) (λ b. is_some t.running)) d.nav t.tree

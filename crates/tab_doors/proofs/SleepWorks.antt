@@ -81,6 +81,7 @@ module _ {move : Option Move} (e : InEvent) (out : List RowKind) (t u : Tables) 
       for_other
       (step_sent e out move freeze (freeze_quiet e freeze refl) refl may)
       one.checks
+      one.asking
       (inl refl)
 
 -- ---- a document is discarded
@@ -116,4 +117,5 @@ module _ {sweeps : Bool} {move : Option Move} (e : InEvent) (out : List RowKind)
       (let its_own = in_log e out (now_is e out) doc its.document its.found in (its_own.d, its_own.found))
       (step_sent e out move discard (discard_quiet e discard refl) refl may)
       one.checks
+      one.asking
       (inr (calm_gone sweeps free))

@@ -120,7 +120,7 @@ module _ (s : Seen) (run : Option ReqId) (event : ℕ) (actor : Actor) (req : Re
   removed_documents = sights_same (λ (d : Document). applied_to (changes.RemoveFrame nav) (told_after_change d (changes.RemoveFrame nav))) (λ d. refl) s.documents
 
   changes_one : Changes t (record t { store = store })
-  changes_one = record { making = refl; whose = refl; shown = refl; last = refl; documents = refl; sent = refl; loads = refl; kept = refl; checks = refl }
+  changes_one = record { making = refl; whose = refl; shown = refl; last = refl; documents = refl; sent = refl; loads = refl; kept = refl; checks = refl; asking = refl }
 
   bare_holds : SameHistory (history_held store) (applied s.history (changes.RemoveFrame nav)) → Holds removed_look (record t { store = store })
   bare_holds history =
@@ -128,4 +128,4 @@ module _ (s : Seen) (run : Option ReqId) (event : ℕ) (actor : Actor) (req : Re
 
   pub removed_holds : SameHistory (history_held store) (applied s.history (changes.RemoveFrame nav)) → Holds (look_of removed_new run) (record t { store = store; tree = destroy_all lost req t.tree })
   removed_holds history =
-      taken_holds removed_look (record t { store = store }) (record t { store = store; tree = destroy_all lost req t.tree }) s.history (applied s.history (changes.RemoveFrame nav)) req lost (bare_holds history) are refl (record { making = refl; whose = refl; shown = refl; last = refl; documents = refl; sent = refl; loads = refl; kept = refl; checks = refl }) refl refl refl
+      taken_holds removed_look (record t { store = store }) (record t { store = store; tree = destroy_all lost req t.tree }) s.history (applied s.history (changes.RemoveFrame nav)) req lost (bare_holds history) are refl (record { making = refl; whose = refl; shown = refl; last = refl; documents = refl; sent = refl; loads = refl; kept = refl; checks = refl; asking = refl }) refl refl refl

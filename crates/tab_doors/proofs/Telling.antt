@@ -48,6 +48,7 @@ pub record SendsOne (t u : Tables) (shown_ : List (NavId × JobId)) (last_ : Lis
   pub loads : u.loads ≡ t.loads
   pub initial : u.initial.entries ≡ t.initial.entries
   pub checks : u.checks ≡ t.checks
+  pub asking : u.asking ≡ t.asking
 
 abbrev pub told_to : ℕ × ℕ → Sight → Sight
 told_to pair d = record d { told = Some pair }

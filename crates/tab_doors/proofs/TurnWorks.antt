@@ -1,4 +1,5 @@
 -- A traversal begins, or a request is refused or dropped, and the coordinator goes on working.
+use Rattle.checking_facts.proofs.Spent.{unspent_at}
 use Rattle.tab_doors.proofs.Ahead.{IsStep, step_more, step_plain}
 use Rattle.tab_doors.proofs.Works.{open_undropped, unchecked_off}
 use Rattle.checking_facts.specs.Prompts.{GoesBeside, discarded_by}
@@ -81,6 +82,7 @@ module _ (e : InEvent) (out : List RowKind) (t : Tables) (req : ReqId) (kind : R
       (work.kept ∙ sym kept)
       beside
       step
+      refl
       refl
       (inl none)
     where
@@ -232,15 +234,18 @@ module _ (e : InEvent) (out : List RowKind) (t : Tables) (req : ReqId) (goal : S
   off : e.checking req ≡ false
   off = turn_off e out (now_is e out) work.checks.begun (work.unheld free) req due.asked due.at due.open_ (is_step due.asked.what its)
 
+  -- as the log has it
+  begin_log : IsBeginDue (log_of e out) req goal
+  begin_log =
+      begin_due e.checking (log_of e out) work.checks.numbered (work.unheld free) req goal off none_asked (at_seen e out t work (λ (s : Seen). IsBeginDue s req goal) due)
+
   begin_step : IsStep None None e out (rows.Started req (Some goal))
-  begin_step =
-      by_log (begin_due e.checking (log_of e out) work.checks.numbered (work.unheld free) req goal off none_asked (at_seen e out t work (λ (s : Seen). IsBeginDue s req goal) due))
+  begin_step = by_log begin_log
     where
       by_log : IsBeginDue (log_of e out) req goal → IsStep None None e out (rows.Started req (Some goal))
       by_log d =
           step_more e out (rows.Started req (Some goal)) (λ r. refl) (started_held e out req (Some goal)) (λ later asks. begin_may (here_of e out) e.event e.actor req goal.0 d.delta d.asked (led_here e out work.own) d.at d.asks d.unstarted d.open_ d.there d.turn d.unasked later (asks.0 req (nat_eq_refl req.0)))
 
-  -- as the log has it
   from : (q : Asked) × (request_of (log_of e out) req ≡ Some q) × (due.asked ≡ unasked_request e.checking q)
   from = found_from e.checking (log_of e out) req due.asked (at_seen e out t work (λ (s : Seen). request_of s req ≡ Some due.asked) due.at)
 
@@ -249,7 +254,7 @@ module _ (e : InEvent) (out : List RowKind) (t : Tables) (req : ReqId) (goal : S
 
   pub begin_work : IsAtWork e (out ++ rows.Started req (Some goal) ∷ []) u
   begin_work =
-      work_more e out (rows.Started req (Some goal)) None t u work (started_goes e out req (Some goal) (work.checks.numbered req) off) (traversal_sole e out req (Some goal) from.0 from.1 (ap is_load (sym what_same) ∙ no_load due.asked.what its)) (λ by q r at there other traverses on runs. rw off (off_runs e.checking (log_of e out) (work.unheld free) by r there on runs)) (inl off)
+      work_more e out (rows.Started req (Some goal)) None t u work (started_goes e out req (Some goal) (work.checks.numbered req) off) (traversal_sole e out req (Some goal) from.0 from.1 (ap is_load (sym what_same) ∙ no_load due.asked.what its)) (λ by q r at there other traverses on runs. rw off (off_runs e.checking (log_of e out) (work.unheld free) by r there on runs)) (inl off, unspent_at (log_of e out) req begin_log.asked begin_log.at begin_log.open_ begin_log.unstarted)
       (on_tables (left_holds (look_now e out t.running) (look_of begun_ (Some req)) t refl refl refl moved refl states_same refl work.holds))
       runs
       goal_then
@@ -259,6 +264,7 @@ module _ (e : InEvent) (out : List RowKind) (t : Tables) (req : ReqId) (goal : S
       work.kept
       off
       begin_step
+      refl
       refl
       (inl refl)
     where

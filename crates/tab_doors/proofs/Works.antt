@@ -27,7 +27,9 @@ use Rattle.tab_doors.specs.Look.{look_of}
 use Rattle.tab_doors.specs.Orders.{next_order, numbered_order, order_to, proc_at}
 use Rattle.tab_doors.specs.Ties.{AreInitial, Holds, IsRunning, proc_in}
 use Rattle.tab_doors.proofs.Ahead.{IsStep}
+use Rattle.tab_doors.proofs.AskingLoads.{beside_asking}
 use Rattle.tab_doors.proofs.Calm.{row_calm}
+use Rattle.tab_doors.specs.AskingLoads.{TiesAsking}
 use Rattle.tab_doors.proofs.Wanted.{come_on}
 use Rattle.tab_doors.specs.Working.{HasGoal, IsAhead, IsAtWork, IsAtWorkFor, IsAtWorkIn, IsCalmIn, IsToCome, StartsPlain}
 use Rattle.std.proofs.lemmas.List.Sums.{fold-append}
@@ -204,8 +206,8 @@ module _ {sweeps : Bool} {from : Option Move} (e : InEvent) (out : List RowKind)
   abbrev pub then_ : Seen
   then_ = after (now_of e out) (row_of e kind)
 
-  pub work_more : GoesThere e out kind → BeginsSole e out kind → GoesDuly e.checking (log_of e out) kind → LeavesStates e.checking (log_of e out) kind → Holds (look_of then_ u.running) u → IsRunning then_.requests u.running → HasGoal then_.requests u.running u.goal → length then_.documents ≤ then_.jobs + 1 → AreInitial then_.initial_states u.initial.entries → TiesLoads then_ u.loads → u.kept.states ≡ kept_in move u.kept.keep (kept_states then_) → GoesBeside e.checking (log_of e out) kind → IsStep from move e out kind → u.checks ≡ t.checks → (discarded_by kind ≡ None) ⊎ IsCalmIn sweeps e.checking (after (log_of e out) (row_of e kind)) → IsAtWorkIn sweeps move e (out ++ kind ∷ []) u
-  work_more it begins duly leaves holds runs goal few initial loads kept beside step same calm =
+  pub work_more : GoesThere e out kind → BeginsSole e out kind → GoesDuly e.checking (log_of e out) kind → LeavesStates e.checking (log_of e out) kind → Holds (look_of then_ u.running) u → IsRunning then_.requests u.running → HasGoal then_.requests u.running u.goal → length then_.documents ≤ then_.jobs + 1 → AreInitial then_.initial_states u.initial.entries → TiesLoads then_ u.loads → u.kept.states ≡ kept_in move u.kept.keep (kept_states then_) → GoesBeside e.checking (log_of e out) kind → IsStep from move e out kind → u.checks ≡ t.checks → u.asking ≡ t.asking → (discarded_by kind ≡ None) ⊎ IsCalmIn sweeps e.checking (after (log_of e out) (row_of e kind)) → IsAtWorkIn sweeps move e (out ++ kind ∷ []) u
+  work_more it begins duly leaves holds runs goal few initial loads kept beside step same as_was calm =
       record {
         own = work.own;
         worker = work.worker;
@@ -226,6 +228,9 @@ module _ {sweeps : Bool} {from : Option Move} (e : InEvent) (out : List RowKind)
         few = subst (λ (s : Seen). length s.documents ≤ s.jobs + 1) (sym (now_more e out kind it.read)) few;
         initial = subst (λ (s : Seen). AreInitial s.initial_states u.initial.entries) (sym (now_more e out kind it.read)) initial;
         loads = subst (λ (s : Seen). TiesLoads s u.loads) (sym (now_more e out kind it.read)) loads;
+        asking =
+            subst (λ (s : Seen). TiesAsking e.checking s u.asking) (sym (log_more e out kind))
+            (subst (λ (l : List Load). TiesAsking e.checking (after (log_of e out) (row_of e kind)) l) (sym as_was) (beside_asking e.checking (log_of e out) e.event e.actor t.asking work.asking kind beside));
         kept = subst (λ (s : Seen). u.kept.states ≡ kept_in move u.kept.keep (kept_states s)) (sym (now_more e out kind it.read)) kept;
         asked = subst (λ (told : Told). AreAskedDuly e.checking e.start (log_of e (out ++ kind ∷ [])) told) (sym told_then) (subst (λ (s : Seen). AreAskedDuly e.checking e.start s (tell_row told kind)) (sym (log_more e out kind)) (more_duly e out told work.asked kind beside step.quiet step.held (IsAhead from) (IsAhead move) step.ahead passes));
         lawful = subst (λ (x : Told). PassIf (IsToCome move e (out ++ kind ∷ [])) e (noted_in x) (out ++ kind ∷ [])) (sym told_then) (more_pass e out told work.asked kind beside step.quiet step.held (IsToCome from e out) (IsToCome move e (out ++ kind ∷ [])) (λ later is. come_on from move e out (kind ∷ []) later (step.ahead later) is) work.lawful (λ later asks is prompts. step.may later asks is.0 prompts));

@@ -5,6 +5,7 @@ pub mod Keeping
 pub mod Orders
 pub mod Ending
 pub mod Dues
+pub mod AskingLoads
 pub mod Working
 pub mod Noting
 pub mod PassedOn

@@ -50,6 +50,7 @@ pub record PlacesOne (state : StateId) (doc : DocId) (t u : Tables) : Type 0 whe
   pub last : u.last.entries ≡ t.last.entries
   pub initial : u.initial.entries ≡ t.initial.entries
   pub loads : u.loads ≡ moved_on (is_populating doc) (phases.Ready doc) t.loads
+  pub asking : u.asking ≡ t.asking
   pub kept : u.kept ≡ t.kept
 
 -- the order is the last one that showed the navigable a document
@@ -79,6 +80,7 @@ pub record IsFresh (address : List ℕ) (proc : ProcId) (keep : ℕ) (t : Tables
   pub sent : length t.sent.items ≡ 1
   pub running : t.running ≡ None
   pub loads : t.loads ≡ []
+  pub asking : t.asking ≡ []
   pub kept : t.kept ≡ record { keep = keep; states = [] }
   pub checks : t.checks ≡ []
 
@@ -97,5 +99,6 @@ pub record IsBare (address : List ℕ) (proc : ProcId) (keep : ℕ) (t : Tables)
   pub sent : t.sent.items ≡ []
   pub running : t.running ≡ None
   pub loads : t.loads ≡ []
+  pub asking : t.asking ≡ []
   pub kept : t.kept ≡ record { keep = keep; states = [] }
   pub checks : t.checks ≡ []

@@ -3,6 +3,7 @@
 use Rattle.unasked_dues.specs.Checking.{AreNumbered, NoStepChecks, NonePasses}
 use Rattle.unasked_dues.specs.Reading.{AreDebts, BeginSole, WereRead}
 use Rattle.checking_facts.specs.Checks.{AreInCheck}
+use Rattle.tab_doors.specs.AskingLoads.{TiesAsking}
 use Rattle.tab_doors.specs.Look.{Look, look_of}
 use Rattle.tab_doors.specs.Keeping.{Move, kept_in}
 use Rattle.tab_doors.specs.Ties.{AreInitial, Holds, IsRunning}
@@ -118,6 +119,8 @@ pub record IsAtWorkIn (sweeps : Bool) (move : Option Move) (e : InEvent) (out : 
   pub few : length (now_of e out).documents ≤ (now_of e out).jobs + 1
   pub initial : AreInitial (now_of e out).initial_states t.initial.entries
   pub loads : TiesLoads (now_of e out) t.loads
+  -- and those in their checks, of the log itself, in which they have begun
+  pub asking : TiesAsking e.checking (log_of e out) t.asking
   pub kept : t.kept.states ≡ kept_in move t.kept.keep (kept_states (now_of e out))
   -- the table of checks holds those of the requests in their check, told of the documents that the rows discarded; and the rows pass, if the prompts come that are due
   pub asked : AreAskedDuly e.checking e.start (log_of e out) (told_by t.checks out)

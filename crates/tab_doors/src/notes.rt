@@ -53,6 +53,7 @@ fn bare(alloc: Global, first: &Address, proc: ProcId, keep: u32) -> Result<Table
         running: None,
         goal: Step(0),
         loads: LoadTable::new(alloc),
+        asking: LoadTable::new(alloc),
         kept,
         checks: UnloadCheck::new(alloc),
     })

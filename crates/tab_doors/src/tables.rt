@@ -39,6 +39,8 @@ pub struct Tables {
     pub goal: Step,
     /// The ongoing loads.
     pub loads: LoadTable,
+    /// The loads in their unload checks, which aren't among those.
+    pub asking: LoadTable,
     /// The document states whose documents are kept for traversal.
     pub kept: PageCache,
     /// The unload checks that had begun before the event, as it was then.

@@ -1,5 +1,4 @@
 -- The traversal that holds the queue is under way between the two parts of a pass: it is in its check, so it has begun, and its step waits, so it is open.
-use Rattle.log_model.specs.Places.{is_under_way}
 use Rattle.log_model.specs.Seen.{Asked, Seen, request_of}
 use Rattle.log_model.specs.declared.job.Why.{Why}
 use Rattle.log_model.specs.declared.row_kind.RowKind.{RowKind}

@@ -134,7 +134,7 @@ module _ (l : InLoad) (t : Tables) (asked : IsAsked l t) (placed_ : away_in t l.
 
   pub going_then : IsGoing t.running l.loads [] then_
   going_then =
-      load_begun_going t.running (l.req ∷ l.loads) [] n l.event.event l.event.actor made.going l.req own made.found None refl refl refl l.loads [] tab_then (started_lasting n l.event.event l.event.actor made.going.lasting l.req None)
+      load_begun_going t.running (l.req ∷ l.loads) [] n l.event.event l.event.actor made.going l.req own made.found None l.loads [] tab_then (started_lasting n l.event.event l.event.actor made.going.lasting l.req None)
 
   -- no earlier load is ongoing
   pub alone_now : has_no_earlier_load n l.req l.nav ≡ true

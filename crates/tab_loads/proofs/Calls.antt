@@ -1,4 +1,5 @@
 -- A load is asked for while the coordinator stands for the log: what is so once its row was logged, and that it is refused where a reason stands against it.
+use Rattle.tab_doors.specs.AskingLoads.{TiesAsking}
 use Rattle.tab_doors.proofs.Uncut.{uncut_pass}
 use Rattle.log_model.specs.declared.row_kind.LogRow.{LogRow}
 use Rattle.seen_laws.specs.Blocks.{EachPass}
@@ -58,7 +59,7 @@ use Rattle.log_model.specs.declared.job.Why.TheVariants as whys
 use Rattle.log_model.specs.declared.request.Request.TheVariants as requests
 use Rattle.log_model.specs.declared.row_kind.RowKind.TheVariants as rows
 
-module _ (e : InEvent) (t : Tables) (queue : Queue) (blame : List (StateId × ReqId)) {check : InCheck} (stands : StandsFor check (seen_start e) t queue blame) (room : HasRoomFor (seen_start e)) (header : t.kept.keep ≡ e.header.keep) (req : ReqId) (nav : NavId) (mode : Mode) (address : List ℕ) (asks : IsLoadAsk e req nav mode address) (logged : IsLogged e t.checks) (logs : LastsInLog e.checking (log_of e [])) (free : check.holds ≡ false → MayDiscardIn false e) where
+module _ (e : InEvent) (t : Tables) (queue : Queue) (blame : List (StateId × ReqId)) {check : InCheck} (stands : StandsFor check (seen_start e) t queue blame) (room : HasRoomFor (seen_start e)) (header : t.kept.keep ≡ e.header.keep) (req : ReqId) (nav : NavId) (mode : Mode) (address : List ℕ) (asks : IsLoadAsk e req nav mode address) (logged : IsLogged e t.checks) (logs : LastsInLog e.checking t.asking (log_of e [])) (free : check.holds ≡ false → MayDiscardIn false e) where
   abbrev s : Seen
   s = seen_start e
 
@@ -94,10 +95,10 @@ module _ (e : InEvent) (t : Tables) (queue : Queue) (blame : List (StateId × Re
   -- ---- it is refused
 
   module _ (reason : Denial) (denied : denial_at_acceptance e.start (requests.Load nav mode address) ≡ Some reason) where
-    pub refuse_now : IsDeniedLoad e req reason × (IsLogged e t.checks × AreTied (now_of e []) t)
+    pub refuse_now : IsDeniedLoad e req reason × (IsLogged e t.checks × (AreTied (now_of e []) t × TiesAsking e.checking (log_of e []) t.asking))
     refuse_now = (
       record { off = asks.outside; nav = nav; mode = mode; address = address; by_user = asks.by_user; own = asks.own; next = asks.next; reason_is = denied; unparked = unparked_before },
-      (logged, load_tied e t queue blame stands logged.read room header req nav mode address asks.by_user asks.own (next_start e req.0 asks.next)),
+      (logged, (load_tied e t queue blame stands logged.read room header req nav mode address asks.by_user asks.own (next_start e req.0 asks.next), logs.asking)),
     )
 
     its : HasDenied e req check.loads t queue blame

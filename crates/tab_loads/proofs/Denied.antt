@@ -52,7 +52,7 @@ pub record HasDenied (e : InEvent) (req : ReqId) (behind : List ReqId) (t : Tabl
   pub duly : AreLeftDuly (log_of e [])
   pub queueing : IsQueueing (record { event = e; loads = req ∷ behind; hand = [] }) [] t queue
 
-module _ (e : InEvent) (t : Tables) (queue : Queue) (blame : List (StateId × ReqId)) {check : InCheck} (stands : StandsFor check (seen_start e) t queue blame) (room : HasRoomFor (seen_start e)) (header : t.kept.keep ≡ e.header.keep) (req : ReqId) (nav : NavId) (mode : Mode) (address : List ℕ) (asks : IsLoadAsk e req nav mode address) (logged : IsLogged e t.checks) (logs : LastsInLog e.checking (log_of e [])) where
+module _ (e : InEvent) (t : Tables) (queue : Queue) (blame : List (StateId × ReqId)) {check : InCheck} (stands : StandsFor check (seen_start e) t queue blame) (room : HasRoomFor (seen_start e)) (header : t.kept.keep ≡ e.header.keep) (req : ReqId) (nav : NavId) (mode : Mode) (address : List ℕ) (asks : IsLoadAsk e req nav mode address) (logged : IsLogged e t.checks) (logs : LastsInLog e.checking t.asking (log_of e [])) where
   abbrev load : Request
   load = requests.Load nav mode address
 

@@ -1,4 +1,5 @@
 -- A load begins, in the place of its navigable's ongoing one: what its door asks.
+use Rattle.tab_doors.proofs.Rooms.{states_fit}
 use Rattle.seen_facts.specs.Load.Loading.{look}
 use Rattle.log_model.specs.Once.{has_no_earlier_load, loads}
 use Rattle.seen_facts.proofs.Hang.Members.{find_has}
@@ -29,8 +30,6 @@ use Rattle.tab_doors.specs.Working.{IsAtWork, KeepsRun}
 use Rattle.tab_doors.specs.declared.tables.Tables.{Tables}
 use Rattle.tab_drops.proofs.Turns.{tied_load}
 use Rattle.tab_drops.specs.Dropping.{AreUnheld}
-use Rattle.tab_facts.proofs.TabGoing.Counts.{count_few}
-use Rattle.tab_facts.specs.TabGoing.Going.{count_of, has_spent}
 use Rattle.tab_ids.specs.declared.DocId.{DocId}
 use Rattle.tab_ids.specs.declared.NavId.{NavId}
 use Rattle.tab_ids.specs.declared.ReqId.{ReqId}
@@ -240,5 +239,4 @@ module _ (l : InLoad) (t : Tables) (asked : IsAsked l t) (placed_ : away_in t l.
       record { q = as_there.q; mode = l.mode; due = due; none_ = none_there; sole = sole; first = none_began; handling = is; unmade = unmade }
 
   pub states_room : v.states + 1 < 4294967296
-  states_room =
-      (let few_ : n.states ≤ 1 + count_of has_spent n.requests = made.going.counted.states in let few = count_few has_spent n.requests in let room = made.going.room in let same : v.states ≡ n.states = way.work.holds.states in omega (arith, few_, few, room, same))
+  states_room = states_fit l.event out v way.work made.going.room

@@ -96,7 +96,7 @@ pub fn load(
     requires room { HasRoomFor (seen_start k.event) }
     requires stands { StandsFor k.check (seen_start k.event) tables.old queue.now blame.old.entries }
     requires logged { IsLogged k.event tables.old.checks }
-    requires lasts { LastsInLog k.event.checking (log_of k.event []) }
+    requires lasts { LastsInLog k.event.checking tables.old.asking (log_of k.event []) }
     requires free { k.check.holds ≡ false → MayDiscardIn false k.event }
     requires slots { AreSlots (log_of k.event []) slots.now.entries }
     ensures came { IfOk result (λ loaded. CameTo k.event req nav mode address.now out.new loaded) }

@@ -1,4 +1,7 @@
 -- A traversal passes its check in the midst of an event: as in the log without questions it has begun then, the tables go on with it running, the event is cut there, and a pass may follow for it.
+use Rattle.tab_doors.specs.AskingLoads.{TiesAsking}
+use Rattle.tab_doors.proofs.Keeping.{no_load_at, traversal_no_load}
+use Rattle.tab_doors.proofs.AskingLoads.{asking_passed}
 use Rattle.asking_facts.proofs.Standing.{passed_stands}
 use Rattle.asking_facts.specs.Prompting.{NoneAnsweredEarly}
 use Rattle.asking_facts.specs.Standing.{StandsAsked}
@@ -266,10 +269,15 @@ module _ (e : InEvent) (loads : List ReqId) (t : Tables) (queue : Queue) (blame 
       was =
           passed_unasked e.checking passed log req q to_go.at numbered off same ∙ ap (λ (x : Seen). with_begun x req q) (sym (now_is e []))
 
+  -- the loads in their checks are those of before, since it is none
+  asking : TiesAsking passed log u.asking
+  asking =
+      asking_passed e.checking log t.asking ready.passing.work.asking req passed same off (no_load_at log req q to_go.at (traversal_no_load q.what to_go.goes))
+
   -- the coordinator goes on working
   work : IsAtWork at [] u
   work =
-      work_cut None e [] passed (due_without e req) u (λ (r : ReqId). false) t ready.passing.work (debts_gone e req passed same off to_go.on ready.passing.work.debts) stands ties calm
+      work_cut None e [] passed (due_without e req) u (λ (r : ReqId). false) t ready.passing.work (debts_gone e req passed same off to_go.on ready.passing.work.debts) stands ties asking calm
 
   pub loose_then : IsLoose (gone_on e req) []
   loose_then = loose_gone e req passed same off to_go.on numbered its_what cut_for.loose

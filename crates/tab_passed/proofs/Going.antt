@@ -1,7 +1,6 @@
 -- A traversal begins in a log as another one began: what holds between two rows goes on with it running, where nothing is held back; and the tables tell of it.
 use Rattle.load_doors.specs.Tied.{AreTied}
 use Rattle.load_table.specs.declared.load.Load.{Load}
-use Rattle.log_model.specs.Places.{is_load}
 use Rattle.log_model.specs.Seen.{Asked, Seen, request_in}
 use Rattle.seen_facts.proofs.Each.Runs.{each_asked_on}
 use Rattle.seen_facts.specs.LoadTies.Tying.{IsLoadTied, TiesLoads}
@@ -16,11 +15,11 @@ use Rattle.tab_doors.specs.declared.tables.Tables.{Tables}
 use Rattle.tab_facts.proofs.TabGoing.Counts.{as_many, count_same}
 use Rattle.tab_facts.proofs.TabGoing.HeldUp.{none_held_up}
 use Rattle.tab_facts.proofs.TabGoing.Steps.{steps_still}
-use Rattle.tab_facts.proofs.TabWhole.Beginning.{IsToGo, no_load}
+use Rattle.tab_facts.proofs.TabWhole.Beginning.{IsToGo}
 use Rattle.tab_facts.specs.Frame.Lasting.{IsMadeShown, PokesItsNav, wish}
 use Rattle.tab_facts.specs.Frame.Moving.{IsMadeToGo, IsMovedThere, IsUnmovedYet, course}
 use Rattle.tab_facts.specs.Last.Lasting.{AreLasting}
-use Rattle.tab_facts.specs.TabGoing.Going.{AreCounted, AreSteps, IsGoing, count_of, has_ended, has_spent}
+use Rattle.tab_facts.specs.TabGoing.Going.{AreCounted, AreSteps, IsGoing, count_of, has_ended}
 use Rattle.tab_facts.specs.TabWhole.Tab.{IsTab}
 use Rattle.tab_ids.specs.declared.ReqId.{ReqId}
 use Rattle.tab_ids.specs.declared.Step.{Step}
@@ -59,23 +58,12 @@ module _ (s : Seen) (req : ReqId) (p : Asked) (is : IsToGo s req p) (b : Asked) 
   same_ended : count_of has_ended n.requests ≡ count_of has_ended s.requests
   same_ended = count_same has_ended s.requests req (begun_as b) (λ x at. refl)
 
-  same_spent : count_of has_spent n.requests ≡ count_of has_spent s.requests
-  same_spent = count_same has_spent s.requests req (begun_as b) alike
-    where
-      alike : (x : Asked) → request_in s.requests req ≡ Some x → has_spent (begun_as b x) ≡ has_spent x
-      alike x at =
-          let both : Some p ≡ Some x = sym is.there ∙ at in
-          let same : p ≡ x = cc in
-          let none : is_load x.what ≡ false = ap (λ (y : Asked). is_load y.what) (sym same) ∙ no_load p.what is.goes in
-          rw none refl
-
   pub going_then : AreCounted s → AreSteps s → length s.requests + 2 < 4294967296 → s.parked ≡ [] → IsGoing (Some req) loads [] (with_begun s req b)
   going_then counted steps room none =
       record {
         tab = tab_then;
         lasting = lasting_then;
         counted = record {
-          states = (let low : s.states ≤ 1 + count_of has_spent s.requests = counted.states in let same : count_of has_spent n.requests ≡ count_of has_spent s.requests = same_spent in omega (arith, low, same));
           entries = (let low : s.entries ≤ 1 + count_of has_ended s.requests = counted.entries in let same : count_of has_ended n.requests ≡ count_of has_ended s.requests = same_ended in omega (arith, low, same));
           epochs = counted.epochs;
         };

@@ -1,4 +1,7 @@
 -- The last answer is delivered, as an event's own row, and no document wants a prompt: what the row leaves as the traversal passes its check.
+use Rattle.tab_doors.proofs.Keeping.{no_load_at, traversal_no_load}
+use Rattle.tab_doors.proofs.AskingLoads.{asking_passed}
+use Rattle.load_table.specs.declared.load.Load.{Load}
 use Rattle.asking_facts.proofs.Heard as heard
 use Rattle.asking_facts.proofs.HeardOn as on
 use Rattle.check_facts.proofs.Checkings.{settled_same}
@@ -51,7 +54,7 @@ open_waits : (gone : DocId → Bool) (asks : List Asking) → list_all is_said a
 open_waits gone asks said still =
     ap (λ (b : Bool). let c : Check = cond b (decided (prompting_doc (open_check gone asks).asked) None) checks.Waiting in c) (settled_same gone asks said ∙ still)
 
-module _ (was : ReqId → Bool) (e : InEvent) (es : List (ReqId × OpenCheck)) (asks : ChecksStand was e.start es) (lasts : LastsInLog was e.start) (each : EachAsked IsAskedPlainly (unasked was e.start).requests) (desks : AreDesksIn (unasked was e.start)) (uncut : e.before ≡ []) (undue : (end : Seen) → e.due end ≡ true) (req : ReqId) (q : Asked) (goal : Step) (pass : IsToPass was e req q goal) (proc : ProcId) (job : Job) (verdict : Verdict) (is : IsAnswer e proc job verdict req) where
+module _ (was : ReqId → Bool) (e : InEvent) (es : List (ReqId × OpenCheck)) (asks : ChecksStand was e.start es) {table : List Load} (lasts : LastsInLog was table e.start) (each : EachAsked IsAskedPlainly (unasked was e.start).requests) (desks : AreDesksIn (unasked was e.start)) (uncut : e.before ≡ []) (undue : (end : Seen) → e.due end ≡ true) (req : ReqId) (q : Asked) (goal : Step) (pass : IsToPass was e req q goal) (proc : ProcId) (job : Job) (verdict : Verdict) (is : IsAnswer e proc job verdict req) where
   -- the event
   abbrev x : InEvent
   x = plain e actors.Coord (rows.Delivered proc)
@@ -70,6 +73,9 @@ module _ (was : ReqId → Bool) (e : InEvent) (es : List (ReqId × OpenCheck)) (
 
     abbrev pub then : Asked
     then = opens.then e.header e.start e.event was proc job verdict req tells es asks lasts.known q pass.at in_check open_
+
+    then_there : request_of t req ≡ Some then
+    then_there = opens.then_there e.header e.start e.event was proc job verdict req tells es asks lasts.known q pass.at in_check open_
 
     under : is_under_way q ≡ true
     under = (and_parts (is_checked q) (is_under_way q) (and_parts (is_checked q && is_under_way q) (not (has_passed e.start q)) in_check).0).1
@@ -114,7 +120,7 @@ module _ (was : ReqId → Bool) (e : InEvent) (es : List (ReqId × OpenCheck)) (
       question : is_question job.task ≡ true
       question = is_of_question was e.start desks proc job verdict None tells.first
 
-      as_it_was : LastsInLog was t
+      as_it_was : LastsInLog was table t
       as_it_was = delivered_lasts (record x { checking = was }) refl refl alive lasts proc refl
         where
           alive : (p : ProcId) → rows.Delivered proc ≡ rows.Delivered p → NoDeath (slice_get (desk_of e.start p).reports 0)
@@ -122,10 +128,11 @@ module _ (was : ReqId → Bool) (e : InEvent) (es : List (ReqId × OpenCheck)) (
               let its : proc ≡ p = cc in
               subst (λ (y : ProcId). NoDeath (slice_get (desk_of e.start y).reports 0)) its (subst NoDeath (sym tells.first) tt)
 
-      heard_lasts : LastsInLog e.checking t
+      heard_lasts : LastsInLog e.checking table t
       heard_lasts =
           record {
             checks = on.go_checks e.header e.start e.event was proc job verdict None tells.first req tells.why es asks.has q pass.at in_check open_ one says asks.open_ asks.within settled none e.checking pass.same pass.off lasts.checks;
+            asking = asking_passed was t table as_it_was.asking req e.checking pass.same pass.off (no_load_at t req then then_there (traversal_no_load q.what pass.goes));
             shows = as_it_was.shows;
             duly = as_it_was.duly;
             known = as_it_was.known;
@@ -136,7 +143,7 @@ module _ (was : ReqId → Bool) (e : InEvent) (es : List (ReqId × OpenCheck)) (
           subst (λ (l : List Asked). SameReads is_step_under_way e.start.requests l) (sym (requests_are e.start e.event actors.Coord proc job verdict None tells.first req tells.why))
           (on_read is_step_under_way e.start.requests req (answered e.start e.event actors.Coord proc job verdict None tells.first req tells.why) (λ y. refl))
 
-      plainly : HasPassedBy x (ended req told)
+      plainly : HasPassedBy x (ended req told) table
       plainly =
           record {
             uncut = refl;
@@ -153,12 +160,12 @@ module _ (was : ReqId → Bool) (e : InEvent) (es : List (ReqId × OpenCheck)) (
             takes = λ later. opens.takes_none e.header e.start e.event was proc job verdict req tells es asks lasts.known q pass.at in_check open_ later;
           }
 
-      pub heard_passed : HasPassedBy e (ended req told)
+      pub heard_passed : HasPassedBy e (ended req told) table
       heard_passed =
-          subst (λ (y : InEvent). HasPassedBy y (ended req told)) (plain_is e actors.Coord (rows.Delivered proc) is.by_coord is.own uncut) plainly
+          subst (λ (y : InEvent). HasPassedBy y (ended req told) table) (plain_is e actors.Coord (rows.Delivered proc) is.by_coord is.own uncut) plainly
 
   -- by the table: its check waited, and goes on once it was told of the answer
-  pub table_passed : outcome_at req es ≡ Some checks.Waiting → outcome_at req (told_of job verdict req es) ≡ Some checks.Go → HasPassedBy e (ended req (told_of job verdict req es))
+  pub table_passed : outcome_at req es ≡ Some checks.Waiting → outcome_at req (told_of job verdict req es) ≡ Some checks.Go → HasPassedBy e (ended req (told_of job verdict req es)) table
   table_passed waited goes =
       let its = waits_in was e.start es asks req q pass.at waited in
       heard_passed its.0 its.1 (goes_all its.0 its.1 goes) (goes_none its.0 its.1 goes)

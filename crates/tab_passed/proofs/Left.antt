@@ -1,4 +1,7 @@
 -- The user leaves, as an event's own row: what the row leaves as the traversal passes its check.
+use Rattle.tab_doors.proofs.Keeping.{no_load_at, traversal_no_load}
+use Rattle.tab_doors.proofs.AskingLoads.{asking_passed}
+use Rattle.load_table.specs.declared.load.Load.{Load}
 use Rattle.asking_facts.proofs.Answered.{answered_pass, found_one, leave_comes, left_checks, left_duly, left_none, left_passes}
 use Rattle.asking_facts.proofs.Passed.{known_on}
 use Rattle.asking_facts.specs.Known.{AskingKnown}
@@ -35,7 +38,7 @@ use Rattle.tab_stands.specs.Checked.{ChecksStand}
 use Rattle.tab_stands.specs.Standing.{LastsInLog}
 use Rattle.unload_check.specs.Checks.{OpenCheck, ended}
 
-module _ (was : ReqId → Bool) (e : InEvent) (es : List (ReqId × OpenCheck)) (asks : ChecksStand was e.start es) (lasts : LastsInLog was e.start) (each : EachAsked IsAskedPlainly (unasked was e.start).requests) (uncut : e.before ≡ []) (undue : (end : Seen) → e.due end ≡ true) (req : ReqId) (q : Asked) (goal : Step) (pass : IsToPass was e req q goal) (by_user : e.actor ≡ actors.Ui) (own : e.own ≡ rows.Answered req false) (awaits : awaits_answer q ≡ true) where
+module _ (was : ReqId → Bool) (e : InEvent) (es : List (ReqId × OpenCheck)) (asks : ChecksStand was e.start es) {table : List Load} (lasts : LastsInLog was table e.start) (each : EachAsked IsAskedPlainly (unasked was e.start).requests) (uncut : e.before ≡ []) (undue : (end : Seen) → e.due end ≡ true) (req : ReqId) (q : Asked) (goal : Step) (pass : IsToPass was e req q goal) (by_user : e.actor ≡ actors.Ui) (own : e.own ≡ rows.Answered req false) (awaits : awaits_answer q ≡ true) where
   -- the event
   abbrev x : InEvent
   x = plain e actors.Ui (rows.Answered req false)
@@ -72,7 +75,7 @@ module _ (was : ReqId → Bool) (e : InEvent) (es : List (ReqId × OpenCheck)) (
   said_known : AskingKnown t
   said_known = known_on e.start (row_of x (rows.Answered req false)) tt tt (λ y at. subst (λ (z : Asked). is_some z.prompted ≡ true) (let both : Some q ≡ Some y = sym pass.at ∙ at in let same : q ≡ y = cc in same) up) tt lasts.known
 
-  as_it_was : LastsInLog was t
+  as_it_was : LastsInLog was table t
   as_it_was = answered_lasts was e.start e.event actors.Ui lasts req false pass.on said_known
 
   has : (y : Asked) → request_of t req ≡ Some y → has_passed t y ≡ true
@@ -81,10 +84,11 @@ module _ (was : ReqId → Bool) (e : InEvent) (es : List (ReqId × OpenCheck)) (
       let same : record q { answered = Some false } ≡ y = cc in
       subst (λ (z : Asked). has_passed t z ≡ true) same (left_passes was e.start e.event req false es began q pass.at up numbered refl)
 
-  left_lasts : LastsInLog e.checking t
+  left_lasts : LastsInLog e.checking table t
   left_lasts =
       record {
         checks = left_checks was e.start e.event req pass.on q pass.at e.checking pass.same pass.off has lasts.checks;
+        asking = asking_passed was t table as_it_was.asking req e.checking pass.same pass.off (no_load_at t req (record q { answered = Some false }) (found_one was e.start e.event req false es began q pass.at up numbered) (traversal_no_load q.what pass.goes));
         shows = as_it_was.shows;
         duly = as_it_was.duly;
         known = as_it_was.known;
@@ -92,7 +96,7 @@ module _ (was : ReqId → Bool) (e : InEvent) (es : List (ReqId × OpenCheck)) (
 
   -- ---- all of it
 
-  plainly : HasPassedBy x (ended req es)
+  plainly : HasPassedBy x (ended req es) table
   plainly =
       record {
         uncut = refl;
@@ -109,6 +113,6 @@ module _ (was : ReqId → Bool) (e : InEvent) (es : List (ReqId × OpenCheck)) (
         takes = λ later. refl;
       }
 
-  pub left_passed : HasPassedBy e (ended req es)
+  pub left_passed : HasPassedBy e (ended req es) table
   left_passed =
-      subst (λ (y : InEvent). HasPassedBy y (ended req es)) (plain_is e actors.Ui (rows.Answered req false) by_user own uncut) plainly
+      subst (λ (y : InEvent). HasPassedBy y (ended req es) table) (plain_is e actors.Ui (rows.Answered req false) by_user own uncut) plainly

@@ -46,9 +46,9 @@ under_check : (s : Seen) (q : Asked) → is_checking s q ≡ true → is_under_w
 under_check s q in_check =
     (and_parts (is_checked q) (is_under_way q) (and_parts (is_checked q && is_under_way q) (not (has_passed s q)) in_check).0).1
 
-module _ (was : ReqId → Bool) (e : InEvent) (t : Tables) (queue : Queue) (blame : List (StateId × ReqId)) {check : InCheck} (stands : StandsFor check (unasked was e.start) t queue blame) (lasts : LastsInLog was e.start) (asks : ChecksStand was e.start t.checks) (holds : check.holds ≡ true) (room : HasRoomFor e.start) (header : t.kept.keep ≡ e.header.keep) (uncut : e.before ≡ []) (undue : (end : Seen) → e.due end ≡ true) (req : ReqId) (q : Asked) (goal : Step) (pass : IsToPass was e req q goal) (delta : ℤ) (rest : List QueueStep) (front : IsInFront queue req delta rest) where
+module _ (was : ReqId → Bool) (e : InEvent) (t : Tables) (queue : Queue) (blame : List (StateId × ReqId)) {check : InCheck} (stands : StandsFor check (unasked was e.start) t queue blame) (lasts : LastsInLog was t.asking e.start) (asks : ChecksStand was e.start t.checks) (holds : check.holds ≡ true) (room : HasRoomFor e.start) (header : t.kept.keep ≡ e.header.keep) (uncut : e.before ≡ []) (undue : (end : Seen) → e.due end ≡ true) (req : ReqId) (q : Asked) (goal : Step) (pass : IsToPass was e req q goal) (delta : ℤ) (rest : List QueueStep) (front : IsInFront queue req delta rest) where
   -- the row was logged by which it passes, and it is under way
-  passes : is_under_way q ≡ true → (table : List (ReqId × OpenCheck)) → HasPassedBy e table → IsPastCheck e check.loads (passed_tables t req goal table) (record queue { waiting = rest }) blame req
+  passes : is_under_way q ≡ true → (table : List (ReqId × OpenCheck)) → HasPassedBy e table t.asking → IsPastCheck e check.loads (passed_tables t req goal table) (record queue { waiting = rest }) blame req
   passes under table own =
       let parts = under_parts q under in
       start_past was e t queue blame stands holds room header req q goal pass parts.0 parts.1 delta rest front table own

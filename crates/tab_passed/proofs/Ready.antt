@@ -59,7 +59,7 @@ use Rattle.tab_turns.specs.Turning.{LeavesAlone}
 use Rattle.log_model.specs.Places.{is_traversal}
 
 -- a coordinator is at work once such a row was logged, whose tables tell of what the log would have come to
-pub work_passed : (e : InEvent) (u : Tables) → HasPassedBy e u.checks → AreTied (now_of e []) u → IsAtWork e [] u
+pub work_passed : (e : InEvent) (u : Tables) → HasPassedBy e u.checks u.asking → AreTied (now_of e []) u → IsAtWork e [] u
 work_passed e u at tied =
     record {
       own = at.led;
@@ -79,6 +79,7 @@ work_passed e u at tied =
       few = tied.few;
       initial = tied.initial;
       loads = tied.loads;
+      asking = at.lasts.asking;
       kept = tied.kept;
       asked = at.asked;
       lawful = at.lawful;
@@ -98,7 +99,7 @@ pub record IsBefore (e : InEvent) (s : Seen) : Type 0 where
   pub unwoken : AwakeSince e.start [] s
   pub still : StillAwake e.start s
 
-module _ (e : InEvent) (t : Tables) (queue : Queue) (blame : List (StateId × ReqId)) {check : InCheck} (s : Seen) (stands_s : StandsFor check s t queue blame) (at_start : IsBefore e s) (holds : check.holds ≡ true) (room : HasRoomFor e.start) (header : t.kept.keep ≡ e.header.keep) (req : ReqId) (p q : Asked) (goal : Step) (there : request_of s req ≡ Some p) (goes : is_traversal p.what ≡ true) (open_ : p.ending ≡ None) (unstarted : p.is_started ≡ false) (starts : q.is_started ≡ true) (to : q.goal ≡ Some goal) (delta : ℤ) (rest : List QueueStep) (front : IsInFront queue req delta rest) (checks : List (ReqId × OpenCheck)) (own : HasPassedBy e checks) (now : now_of e [] ≡ with_begun s req q) where
+module _ (e : InEvent) (t : Tables) (queue : Queue) (blame : List (StateId × ReqId)) {check : InCheck} (s : Seen) (stands_s : StandsFor check s t queue blame) (at_start : IsBefore e s) (holds : check.holds ≡ true) (room : HasRoomFor e.start) (header : t.kept.keep ≡ e.header.keep) (req : ReqId) (p q : Asked) (goal : Step) (there : request_of s req ≡ Some p) (goes : is_traversal p.what ≡ true) (open_ : p.ending ≡ None) (unstarted : p.is_started ≡ false) (starts : q.is_started ≡ true) (to : q.goal ≡ Some goal) (delta : ℤ) (rest : List QueueStep) (front : IsInFront queue req delta rest) (checks : List (ReqId × OpenCheck)) (own : HasPassedBy e checks t.asking) (now : now_of e [] ≡ with_begun s req q) where
   idle : t.running ≡ None
   idle = stands_s.alone holds
 

@@ -1,4 +1,5 @@
 -- A traversal passes its check by an event's own row: what stood as the event began, with it in its check, is what a pass may follow from.
+use Rattle.load_table.specs.declared.load.Load.{Load}
 use Rattle.leave_facts.proofs.Bares.{homes_log}
 use Rattle.load_doors.proofs.Starts.{requests_start}
 use Rattle.log_model.specs.After.{has_stood_now}
@@ -43,7 +44,7 @@ module _ (was : ReqId → Bool) (e : InEvent) where
   quiet = quieted before e.event (has_stood_now before.has_stood before)
 
   -- the row leaves it with the traversal begun
-  pub now_begun : (req : ReqId) (q : Asked) (goal : Step) → IsToPass was e req q goal → (checks : List (ReqId × OpenCheck)) → HasPassedBy e checks → now_of e [] ≡ with_begun quiet req q
+  pub now_begun : (req : ReqId) (q : Asked) (goal : Step) → IsToPass was e req q goal → (checks : List (ReqId × OpenCheck)) → {asking : List Load} → HasPassedBy e checks asking → now_of e [] ≡ with_begun quiet req q
   now_begun req q goal pass checks own =
       own.unseen
       ∙ ap (λ (x : Seen). quieted x e.event (has_stood_now x.has_stood x)) (passed_unasked was e.checking e.start req q pass.at own.numbered pass.off pass.same)
@@ -62,7 +63,7 @@ module _ (was : ReqId → Bool) (e : InEvent) where
         quiet_stands before e.event (has_stood_now before.has_stood before) t queue blame stands (λ off away. ap (λ (b : Bool). has_stood_now b before) off ∙ away)
 
     -- nothing is held back
-    held_none : check.holds ≡ true → (req : ReqId) (q : Asked) (goal : Step) → IsToPass was e req q goal → (checks : List (ReqId × OpenCheck)) → HasPassedBy e checks → (r : ReqId) → has_req (held_at_first e) r ≡ false
+    held_none : check.holds ≡ true → (req : ReqId) (q : Asked) (goal : Step) → IsToPass was e req q goal → (checks : List (ReqId × OpenCheck)) → {asking : List Load} → HasPassedBy e checks asking → (r : ReqId) → has_req (held_at_first e) r ≡ false
     held_none holds req q goal pass checks own r =
         ap (λ (l : List ReqId). has_req l r) (sym (uncut_held e own.uncut) ∙ ap (λ (x : Seen). x.parked) (now_begun req q goal pass checks own) ∙ quiet_then.between.held (stands.alone holds))
 
@@ -91,6 +92,6 @@ module _ (was : ReqId → Bool) (e : InEvent) where
           still = λ nav place doc found wakes. inl (record { place = place; placed = found; wakes = wakes });
         }
 
-    pub start_past : check.holds ≡ true → HasRoomFor e.start → t.kept.keep ≡ e.header.keep → (req : ReqId) (q : Asked) (goal : Step) → IsToPass was e req q goal → q.is_started ≡ true → q.ending ≡ None → (delta : ℤ) (rest : List QueueStep) → IsInFront queue req delta rest → (checks : List (ReqId × OpenCheck)) → HasPassedBy e checks → IsPastCheck e check.loads (passed_tables t req goal checks) (record queue { waiting = rest }) blame req
+    pub start_past : check.holds ≡ true → HasRoomFor e.start → t.kept.keep ≡ e.header.keep → (req : ReqId) (q : Asked) (goal : Step) → IsToPass was e req q goal → q.is_started ≡ true → q.ending ≡ None → (delta : ℤ) (rest : List QueueStep) → IsInFront queue req delta rest → (checks : List (ReqId × OpenCheck)) → HasPassedBy e checks t.asking → IsPastCheck e check.loads (passed_tables t req goal checks) (record queue { waiting = rest }) blame req
     start_past holds room header req q goal pass starts open_ delta rest front checks own =
         past_check e t queue blame quiet quiet_then (at_start (held_none holds req q goal pass checks own)) holds room header req (unbegun q) q goal (unbegun_there req q goal pass (own.numbered req q pass.at)) pass.goes open_ refl starts pass.to delta rest front checks own (now_begun req q goal pass checks own)

@@ -1,5 +1,6 @@
 -- A traversal passes its unload check by an event's own row: the user leaves, or the last answer is delivered and no document wants a prompt.
 -- HTML Standard, "checking if unloading is canceled" and "traverse the history by a delta". Who is in its check, the table of checks, and the log without questions are this project's own.
+use Rattle.load_table.specs.declared.load.Load.{Load}
 use Rattle.checking_facts.specs.Checks.{SameBut}
 use Rattle.checking_facts.specs.Prompts.{AreAskedDuly, told_by}
 use Rattle.log_model.specs.After.{has_stood_now}
@@ -48,14 +49,14 @@ abbrev pub start_quiet : InEvent → Seen
 start_quiet e = quieted (seen_start e) e.event (has_stood_now (seen_start e).has_stood (seen_start e))
 
 -- nothing was put out before, so nothing is owed; as the event began requests had their numbers; a row that may stand first was logged, which isn't seen in the log without questions; what lasts of the log itself lasts, no traversal in its check has passed, no step under way is in its check, and a table with these checks stands for that; and the row passes, if what comes later has what it asks, which is nothing that takes a report up
-pub record HasPassedBy (e : InEvent) (checks : List (ReqId × OpenCheck)) : Type 0 where
+pub record HasPassedBy (e : InEvent) (checks : List (ReqId × OpenCheck)) (table : List Load) : Type 0 where
   pub uncut : e.before ≡ []
   pub undue : (end : Seen) → e.due end ≡ true
   pub numbered : AreNumbered e.start
   pub led : leads e.own ≡ true
   pub worker : IsWorker e.actor
   pub unseen : now_of e [] ≡ start_quiet e
-  pub lasts : LastsInLog e.checking (log_of e [])
+  pub lasts : LastsInLog e.checking table (log_of e [])
   pub calm : NonePasses e.checking (log_of e [])
   pub free : NoStepChecks e.checking (log_of e [])
   pub asked : AreAskedDuly e.checking e.start (log_of e []) (told_by checks [])
@@ -76,7 +77,7 @@ IsInFront queue req delta rest = queue.waiting ≡ Traverse req delta ∷ rest
 
 -- the traversal is past its check: a pass may follow for it, of the tables with it running and of the queue without its step; nothing is owed, and orders on their way are for what they may be
 pub record IsPastCheck (e : InEvent) (loads : List ReqId) (u : Tables) (queue : Queue) (blame : List (StateId × ReqId)) (req : ReqId) : Type 0 where
-  pub own : HasPassedBy e u.checks
+  pub own : HasPassedBy e u.checks u.asking
   pub ready : IsReady (record { event = e; loads = loads; hand = [] }) [] u queue blame (whys.Req req)
   pub loose : IsLoose e []
   pub makes : MakesServe (now_of e [])

@@ -80,6 +80,7 @@ begun_work e out t doc left states work is =
       few = work.few;
       initial = work.initial;
       loads = work.loads;
+      asking = work.asking;
       kept = is ∙ ap (λ (l : List StateId). with_left left t.kept.keep l) work.kept;
       asked = work.asked;
       lawful = begin_move e (noted_by t.checks out) out (record { doc = doc; left = left }) work.lawful;

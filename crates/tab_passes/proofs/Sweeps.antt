@@ -28,6 +28,7 @@ module _ {sweeps : Bool} (p : InPass) (out : List RowKind) (t : Tables) (pass : 
         few = pass.work.few;
         initial = pass.work.initial;
         loads = pass.work.loads;
+        asking = pass.work.asking;
         kept = pass.work.kept;
         asked = pass.work.asked;
         lawful = pass.work.lawful;

@@ -1,4 +1,6 @@
 -- The event is cut behind prompts: its coordinator goes on working, by a table that was told of what the rows discarded.
+use Rattle.tab_doors.specs.AskingLoads.{TiesAsking}
+use Rattle.tab_doors.proofs.AskingLoads.{row_asking}
 use Rattle.asking_facts.specs.Standing.{StandsAsked}
 use Rattle.check_facts.specs.Prompting.{todo_of}
 use Rattle.log_model.specs.After.{after}
@@ -106,6 +108,15 @@ soles_on e (rows.Prompted req doc ∷ more) out are sole =
     (soles_on e more (out ++ rows.Prompted req doc ∷ []) are (soles_more e out (rows.Prompted req doc) tt sole))
 soles_on e (_ ∷ more) out never sole = absurd never
 
+-- the loads in their checks are those of before
+asking_over : (e : InEvent) (more out : List RowKind) → ArePrompts more → (t : Tables) → TiesAsking e.checking (log_of e out) t.asking → TiesAsking e.checking (log_of e (out ++ more)) t.asking
+asking_over e [] out are t ties =
+    subst (λ (l : List RowKind). TiesAsking e.checking (log_of e l) t.asking) (sym (append-nil out)) ties
+asking_over e (rows.Prompted req doc ∷ more) out are t ties =
+    subst (λ (l : List RowKind). TiesAsking e.checking (log_of e l) t.asking) (append_assoc out (rows.Prompted req doc ∷ []) more)
+    (asking_over e more (out ++ rows.Prompted req doc ∷ []) are t (subst (λ (s : Seen). TiesAsking e.checking s t.asking) (sym (log_more e out (rows.Prompted req doc))) (row_asking e.checking (log_of e out) e.event e.actor t.asking ties (rows.Prompted req doc) tt)))
+asking_over e (_ ∷ more) out never t ties = absurd never
+
 -- ---- the event is cut behind them
 
 module _ (e : InEvent) (out more : List RowKind) (are : ArePrompts more) (finished : FinishedNone e out) (test : List LogRow → Bool) where
@@ -167,4 +178,4 @@ module _ (e : InEvent) (out more : List RowKind) (are : ArePrompts more) (finish
 
     pub work_prompted : (but : ReqId → Bool) (u : Tables) → u ≡ record t { checks = u.checks } → StandsAsked (IsToCome move then_prompted []) but then_prompted [] (record { checks = u.checks; run = [] }) → {then_sweeps : Bool} → IsCalmIn then_sweeps e.checking (log_of then_prompted []) → IsAtWorkIn then_sweeps move then_prompted [] u
     work_prompted but u is stands calm =
-        work_wanting move e (out ++ more) e.checking (owes_seen e out) u but then_prompted.wants work.own work.worker work.numbered (soles_on e more out are work.sole) debts_prompted stands (ties_prompted u is) calm
+        work_wanting move e (out ++ more) e.checking (owes_seen e out) u but then_prompted.wants work.own work.worker work.numbered (soles_on e more out are work.sole) debts_prompted stands (ties_prompted u is) (subst (λ (x : Tables). TiesAsking e.checking (log_of e (out ++ more)) x.asking) (sym is) (asking_over e more out are t work.asking)) calm

@@ -9,7 +9,6 @@ use Rattle.seen_facts.proofs.LoadTies.Rows.{accepted_tied}
 use Rattle.log_model.specs.After.{new_request}
 use Rattle.log_model.specs.Equal.{has_req}
 use Rattle.log_model.specs.History.{has_nav}
-use Rattle.log_model.specs.Places.{is_load}
 use Rattle.log_model.specs.Points.{nav_of_request}
 use Rattle.log_model.specs.Queue.{is_delivered_duly}
 use Rattle.log_model.specs.Seen.{Asked, Seen, request_in}
@@ -24,7 +23,7 @@ use Rattle.row_facts.proofs.RestRows.Rows.{accepted_rests}
 use Rattle.row_facts.specs.RestRows.Moving.{AllRest}
 use Rattle.seen_laws.specs.Blocks.{point_at}
 use Rattle.seen_laws.specs.InEvent.{InEvent, IsTakenIn, now_of, row_of, start_of}
-use Rattle.std.proofs.Common.{Bool, List, None, Option, Some, [], ap, arith, cond, eqb-true, false, inl, inr, length, length-append, refl, subst, sym, true, ℕ, ◌&&◌, ◌+◌, ◌-◌, ◌<◌, ◌==◌, ◌||◌, ◌∙◌, ◌∷◌, ◌≡◌, ◌≤◌, ◌⊎◌}
+use Rattle.std.proofs.Common.{Bool, List, None, Option, Some, [], ap, arith, cond, eqb-true, false, inl, inr, length, length-append, refl, subst, sym, true, ℕ, ◌+◌, ◌-◌, ◌<◌, ◌==◌, ◌||◌, ◌∙◌, ◌∷◌, ◌≡◌, ◌≤◌, ◌⊎◌}
 use Rattle.std.proofs.lemmas.Option.{slice_get_within}
 use Rattle.std.specs.Prelude.{slice_get}
 use Rattle.tab_doors.proofs.EndLaws.{left_holds}
@@ -34,7 +33,7 @@ use Rattle.tab_doors.specs.Working.{HasGoal}
 use Rattle.tab_doors.specs.declared.tables.Tables.{Tables}
 use Rattle.tab_settles.proofs.Lates.{unstood_by}
 use Rattle.tab_settles.proofs.PassedOn.{steps_still}
-use Rattle.tab_settles.specs.PassedOn.{AreHeldUp, AreLeftStrays, IsGoing, IsTab, count_of, has_ended, has_spent}
+use Rattle.tab_settles.specs.PassedOn.{AreHeldUp, AreLeftStrays, IsGoing, IsTab, count_of, has_ended}
 use Rattle.tab_ids.specs.declared.DocId.{DocId}
 use Rattle.tab_ids.specs.declared.NavId.{NavId}
 use Rattle.tab_ids.specs.declared.ReqId.{ReqId}
@@ -153,13 +152,6 @@ module _ (e : InEvent) (req : ReqId) (doc : Option DocId) (what : Request) (by_u
     pub goes_on : HasRoomFor s → ((x : DocId) → doc ≡ Some x → IsOfItsNav s.documents (wish new) x) → (ids : List ReqId) → IsTab t.running ids [] went → IsGoing t.running ids [] (now_of e [])
     goes_on room its_own ids tab = subst (λ (x : Seen). IsGoing t.running ids [] x) (sym now) going
       where
-        spent : count_of has_spent went.requests ≡ count_of has_spent s.requests
-        spent = count_as has_spent new (no_load (is_load what)) s.requests
-          where
-            no_load : (b : Bool) → (b && false) ≡ false
-            no_load true = refl
-            no_load false = refl
-
         ended : count_of has_ended went.requests ≡ count_of has_ended s.requests
         ended = count_as has_ended new refl s.requests
 
@@ -169,7 +161,6 @@ module _ (e : InEvent) (req : ReqId) (doc : Option DocId) (what : Request) (by_u
               tab = tab;
               lasting = accepted_lasting s e.event actors.Ui stands.lasts.lasting req doc what nr its_own;
               counted = record {
-                states = subst (λ (n : ℕ). s.states ≤ 1 + n) (sym spent) stands.lasts.counted.states;
                 entries = subst (λ (n : ℕ). s.entries ≤ 1 + n) (sym ended) stands.lasts.counted.entries;
                 epochs = stands.lasts.counted.epochs;
               };

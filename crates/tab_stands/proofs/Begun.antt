@@ -27,7 +27,7 @@ use Rattle.tab_stands.specs.Offs.{AreShownUnder}
 use Rattle.tab_stands.specs.Standing.{HasBegun, HasLogged, Lasts, seen_start}
 
 -- a coordinator is at work once the own row was logged, whose tables stand for what the log would have come to
-pub work_first : (e : InEvent) (t : Tables) → HasLogged e t.checks → leads e.own ≡ true → IsWorker e.actor → AreTied (now_of e []) t → IsAtWork e [] t
+pub work_first : (e : InEvent) (t : Tables) → HasLogged e t.checks t.asking → leads e.own ≡ true → IsWorker e.actor → AreTied (now_of e []) t → IsAtWork e [] t
 work_first e t at own worker tied =
     record {
       own = own;
@@ -47,6 +47,7 @@ work_first e t at own worker tied =
       few = tied.few;
       initial = tied.initial;
       loads = tied.loads;
+      asking = at.lasts.asking;
       kept = tied.kept;
       asked = at.logged.asked;
       lawful = at.lawful;
@@ -84,7 +85,7 @@ module _ (p : InPass) (t : Tables) (queue : Queue) (blame : List (StateId × Req
       }
 
 -- its own row was logged, and nothing was put out
-module _ (p : InPass) (t : Tables) (queue : Queue) (blame : List (StateId × ReqId)) {loads : List ReqId} {waits : Bool} (between : IsBetweenChecks t.kept.keep t.running loads waits (seen_start p.event)) (lasts : Lasts t.running (seen_start p.event)) (goal : HasGoal (seen_start p.event).requests t.running t.goal) (header : t.kept.keep ≡ p.event.header.keep) (logged : HasLogged p.event t.checks) (own : leads p.event.own ≡ true) (worker : IsWorker p.event.actor) (tied : AreTied (now_of p.event []) t) (going : IsGoing t.running p.loads p.hand (now_of p.event [])) (rests : AllRest (now_of p.event [])) (comes : IsComing blame (seen_start p.event) (now_of p.event [])) where
+module _ (p : InPass) (t : Tables) (queue : Queue) (blame : List (StateId × ReqId)) {loads : List ReqId} {waits : Bool} (between : IsBetweenChecks t.kept.keep t.running loads waits (seen_start p.event)) (lasts : Lasts t.running (seen_start p.event)) (goal : HasGoal (seen_start p.event).requests t.running t.goal) (header : t.kept.keep ≡ p.event.header.keep) (logged : HasLogged p.event t.checks t.asking) (own : leads p.event.own ≡ true) (worker : IsWorker p.event.actor) (tied : AreTied (now_of p.event []) t) (going : IsGoing t.running p.loads p.hand (now_of p.event [])) (rests : AllRest (now_of p.event [])) (comes : IsComing blame (seen_start p.event) (now_of p.event [])) where
   loose_here : IsLoose p.event []
   loose_here = loose_first p.event logged.logged.undue
 

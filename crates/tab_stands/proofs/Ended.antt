@@ -180,11 +180,12 @@ module _ (p : InPass) (out : List RowKind) (t : Tables) (queue : Queue) (blame :
       pass_tied (IsToCome None p.event out) p.event out (told_by t.checks out) at.passing.work.asked at.passing.work.lawful (come_end p.event out wanted) paid taken at.queueing.over settled
 
   -- what lasts of the log itself
-  lasts_log : IsTakenIn p.event (later_of p.event out) → LastsInLog p.event.checking (log_of p.event out)
+  lasts_log : IsTakenIn p.event (later_of p.event out) → LastsInLog p.event.checking t.asking (log_of p.event out)
   lasts_log taken =
       let pass = passes taken in
       record {
         checks = at.passing.work.checks;
+        asking = at.passing.work.asking;
         shows = event_under p.event out [] pass.1 of_coord (shows pass);
         duly = at.passing.duly;
         known = known_end p.event out [] at.passing.work.goes of_coord pass (known pass);

@@ -57,7 +57,7 @@ tab_more waiting last own each step has = by_place (has_more waiting last step h
     by_place (inl there) = each step there
     by_place (inr same) = subst (λ (x : QueueStep). IsOfTab x) same own
 
-module _ (e : InEvent) (t : Tables) (queue : Queue) (blame : List (StateId × ReqId)) {check : InCheck} (stands : StandsFor check (seen_start e) t queue blame) (logged : HasLogged e t.checks) (room : HasRoomFor (seen_start e)) (header : t.kept.keep ≡ e.header.keep) (req : ReqId) (delta : ℤ) (by_user : e.actor ≡ actors.Ui) (own : e.own ≡ rows.Accepted req None (requests.Go delta)) (nr : req.0 ≡ length (seen_start e).requests + 1) where
+module _ (e : InEvent) (t : Tables) (queue : Queue) (blame : List (StateId × ReqId)) {check : InCheck} (stands : StandsFor check (seen_start e) t queue blame) (logged : HasLogged e t.checks t.asking) (room : HasRoomFor (seen_start e)) (header : t.kept.keep ≡ e.header.keep) (req : ReqId) (delta : ℤ) (by_user : e.actor ≡ actors.Ui) (own : e.own ≡ rows.Accepted req None (requests.Go delta)) (nr : req.0 ≡ length (seen_start e).requests + 1) where
   abbrev go : Request
   go = requests.Go delta
 

@@ -65,7 +65,7 @@ module _ (e : InEvent) (first : List RowKind) (checking : ReqId → Bool) (due :
   cut_acts {check} t queue blame acted =
       record {
         stands = subst (λ (s : Seen). StandsFor check s t queue blame) same_now acted.stands;
-        lasts = subst (λ (s : Seen). LastsInLog checking s) same_log acted.lasts;
+        lasts = subst (λ (s : Seen). LastsInLog checking t.asking s) same_log acted.lasts;
         asks = subst (λ (s : Seen). ChecksStand checking s t.checks) same_log acted.asks;
         passes = subst (λ (l : List LogRow). EachPass (start_of e) l []) (rows_cut e first checking due more) acted.passes;
       }

@@ -145,7 +145,7 @@ module _ (e : InEvent) (proc : ProcId) (report : Report) (made : Made) (del : Is
 
   -- ---- it is at hand
 
-  pub hand_begun : IsNoGo made.what → is_held_back (seen_start e) made ≡ false → HasLogged e t.checks → HasRoomFor (seen_start e) → t.kept.keep ≡ e.header.keep → HasBegun (record { event = e; loads = check.loads; hand = made ∷ [] }) t queue blame
+  pub hand_begun : IsNoGo made.what → is_held_back (seen_start e) made ≡ false → HasLogged e t.checks t.asking → HasRoomFor (seen_start e) → t.kept.keep ≡ e.header.keep → HasBegun (record { event = e; loads = check.loads; hand = made ∷ [] }) t queue blame
   hand_begun no_go free logged room header =
       heard_begun e proc report made del tells t queue blame stands aside logged room header (made ∷ []) tab (held_free free) queue (queueing_free free logged.logged.uncut (made ∷ []) tab queue (queue_still (unqueued s [] e.event actors.Coord proc report made del.first tells no_go)) refl)
     where
@@ -217,7 +217,7 @@ module _ (e : InEvent) (proc : ProcId) (report : Report) (made : Made) (del : Is
             let never : true ≡ false = sym all ∙ stood ∙ off in
             cc
 
-    pub parked_begun : HasLogged e t.checks → HasRoomFor (seen_start e) → t.kept.keep ≡ e.header.keep → (left : Queue) → left ≡ record queue { parked = queue.parked ++ made ∷ [] } → HasBegun (record { event = e; loads = check.loads; hand = [] }) t left blame
+    pub parked_begun : HasLogged e t.checks t.asking → HasRoomFor (seen_start e) → t.kept.keep ≡ e.header.keep → (left : Queue) → left ≡ record queue { parked = queue.parked ++ made ∷ [] } → HasBegun (record { event = e; loads = check.loads; hand = [] }) t left blame
     parked_begun logged room header left pushed =
         heard_begun e proc report made del tells t queue blame stands aside logged room header [] tab_held held_more left (record {
           waits = told_waiting e proc del.by_coord del.own t queue blame stands aside report del.first same tab_held.known logged.logged.uncut;
@@ -288,6 +288,6 @@ module _ (e : InEvent) (proc : ProcId) (report : Report) (made : Made) (del : Is
           steps = tab_more queue.waiting (Traverse made.req delta) tt stands.queue.steps;
         }
 
-    pub joined_begun : HasLogged e t.checks → HasRoomFor (seen_start e) → t.kept.keep ≡ e.header.keep → (left : Queue) → left ≡ record queue { waiting = queue.waiting ++ Traverse made.req delta ∷ [] } → HasBegun (record { event = e; loads = check.loads; hand = [] }) t left blame
+    pub joined_begun : HasLogged e t.checks t.asking → HasRoomFor (seen_start e) → t.kept.keep ≡ e.header.keep → (left : Queue) → left ≡ record queue { waiting = queue.waiting ++ Traverse made.req delta ∷ [] } → HasBegun (record { event = e; loads = check.loads; hand = [] }) t left blame
     joined_begun logged room header left pushed =
         heard_begun e proc report made del tells t queue blame stands aside logged room header [] tab_joined (held_free free_go) left (queueing_free free_go logged.logged.uncut [] tab_joined left (subst (λ (l : List QueueStep). HasQueue n t.running l) (sym (ap (λ (q : Queue). q.waiting) pushed)) queue_more) (ap (λ (q : Queue). q.parked) pushed))

@@ -48,7 +48,7 @@ module _ (e : InEvent) (t : Tables) (queue : Queue) (blame : List (StateId × Re
 
   -- ---- where no reason stands against it
 
-  module _ (admitted : denial_at_acceptance e.start (requests.Load nav mode address) ≡ None) (logged : HasLogged e t.checks) where
+  module _ (admitted : denial_at_acceptance e.start (requests.Load nav mode address) ≡ None) (logged : HasLogged e t.checks t.asking) where
     -- what joined isn't refused as it is accepted
     early : (r : ReqId) (q : Asked) → request_in n.requests r ≡ Some q → denial_at_acceptance e.start q.what ≡ None ⊎ (nat_lt (length e.start.requests) r.0 ≡ false)
     early r q at = by_old (old_or_new e req None load by_user own nr aside r q at)

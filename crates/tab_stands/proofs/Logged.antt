@@ -1,4 +1,7 @@
 -- What is known of the log once an event's own row was logged, and what lasts of it.
+use Rattle.tab_doors.proofs.AskingLoads.{LeavesAsking, row_asking}
+use Rattle.tab_doors.specs.AskingLoads.{TiesAsking}
+use Rattle.load_table.specs.declared.load.Load.{Load}
 use Rattle.tab_doors.proofs.Uncut.{uncut_now}
 use Rattle.asking_facts.proofs.Passed.{known_on}
 use Rattle.asking_facts.specs.Asking.{AsksBegun}
@@ -53,7 +56,7 @@ module _ (e : InEvent) (aside : StartsUnasked e) where
   own_read = sym (uncut_now e aside.uncut aside.plain) ∙ ap (λ (s : Seen). after s (row_of e e.own)) (sym start_plain)
 
 -- where the own row may be logged by itself
-pub with_lawful : (e : InEvent) (checks : List (ReqId × OpenCheck)) → IsLogged e checks → LastsInLog e.checking (log_of e []) → AreLegal e [] → HasLogged e checks
+pub with_lawful : (e : InEvent) (checks : List (ReqId × OpenCheck)) → {table : List Load} → IsLogged e checks → LastsInLog e.checking table (log_of e []) → AreLegal e [] → HasLogged e checks table
 with_lawful e checks logged lasts legal =
     record { logged = logged; lasts = lasts; lawful = lawful_pass (IsToCome None e []) e (noted_by checks []) [] (lawful_legal e [] legal) }
 
@@ -89,11 +92,23 @@ wants_none s (rows.Evicted state) is = tt
 wants_none s (rows.Delivered proc) is = tt
 wants_none s _ is = absurd (let never : false ≡ true = is in cc)
 
-module _ (e : InEvent) (uncut : e.before ≡ []) (led : leads e.own ≡ true) (alive : (proc : ProcId) → e.own ≡ rows.Delivered proc → NoDeath (slice_get (desk_of e.start proc).reports 0)) (lasts : LastsInLog e.checking e.start) where
-  own_lasts : GoesDuly e.checking e.start e.own → AnswersPrompt e.start e.own → LastsInLog e.checking (log_of e [])
+-- of what it accepts, it has the next number; it begins and ends none
+asking_own : (checking : ReqId → Bool) (s : Seen) (kind : RowKind) → leads kind ≡ true → GoesDuly checking s kind → LeavesAsking checking s kind
+asking_own checking s (rows.Accepted req doc what) is goes = goes.next
+asking_own checking s (rows.Answered req stay) is goes = tt
+asking_own checking s (rows.Evicted state) is goes = tt
+asking_own checking s (rows.Delivered proc) is goes = tt
+asking_own checking s _ is goes = absurd (let never : false ≡ true = is in cc)
+
+module _ (e : InEvent) (uncut : e.before ≡ []) (led : leads e.own ≡ true) (alive : (proc : ProcId) → e.own ≡ rows.Delivered proc → NoDeath (slice_get (desk_of e.start proc).reports 0)) {table : List Load} (lasts : LastsInLog e.checking table e.start) where
+  own_lasts : GoesDuly e.checking e.start e.own → AnswersPrompt e.start e.own → LastsInLog e.checking table (log_of e [])
   own_lasts goes answers =
-      record { checks = checks; shows = own_under e uncut led alive lasts.shows; duly = own_duly e uncut led checks.numbered lasts.duly; known = known }
+      record { checks = checks; asking = asking; shows = own_under e uncut led alive lasts.shows; duly = own_duly e uncut led checks.numbered lasts.duly; known = known }
     where
+      asking : TiesAsking e.checking (log_of e []) table
+      asking =
+          subst (λ (x : Seen). TiesAsking e.checking x table) (sym (uncut_log e uncut)) (row_asking e.checking e.start e.event e.actor table lasts.asking e.own (asking_own e.checking e.start e.own led goes))
+
       known : AskingKnown (log_of e [])
       known =
           subst (λ (x : Seen). AskingKnown x) (sym (uncut_log e uncut))
@@ -103,23 +118,24 @@ module _ (e : InEvent) (uncut : e.before ≡ []) (led : leads e.own ≡ true) (a
       checks = subst (λ (x : Seen). AreInCheck e.checking x) (sym (uncut_log e uncut)) (row_checks e.checking e.start (row_of e e.own) goes (leaves_own e.checking e.start e.own led) lasts.checks)
 
   -- of a request that is accepted, which isn't in its check
-  pub accepted_lasts : (req : ReqId) (doc : Option DocId) (what : Request) → e.own ≡ rows.Accepted req doc what → req.0 ≡ length e.start.requests + 1 → e.checking req ≡ false → LastsInLog e.checking (log_of e [])
+  pub accepted_lasts : (req : ReqId) (doc : Option DocId) (what : Request) → e.own ≡ rows.Accepted req doc what → req.0 ≡ length e.start.requests + 1 → e.checking req ≡ false → LastsInLog e.checking table (log_of e [])
   accepted_lasts req doc what own next outside =
       own_lasts (subst (λ (k : RowKind). GoesDuly e.checking e.start k) (sym own) (record { next = next; outside = outside })) (subst (λ (k : RowKind). AnswersPrompt e.start k) (sym own) tt)
 
   -- of a report that is taken
-  pub delivered_lasts : (proc : ProcId) → e.own ≡ rows.Delivered proc → LastsInLog e.checking (log_of e [])
+  pub delivered_lasts : (proc : ProcId) → e.own ≡ rows.Delivered proc → LastsInLog e.checking table (log_of e [])
   delivered_lasts proc own = own_lasts (subst (λ (k : RowKind). GoesDuly e.checking e.start k) (sym own) tt) (subst (λ (k : RowKind). AnswersPrompt e.start k) (sym own) tt)
 
   -- of an eviction
-  pub evicted_lasts : (state : StateId) → e.own ≡ rows.Evicted state → LastsInLog e.checking (log_of e [])
+  pub evicted_lasts : (state : StateId) → e.own ≡ rows.Evicted state → LastsInLog e.checking table (log_of e [])
   evicted_lasts state own = own_lasts (subst (λ (k : RowKind). GoesDuly e.checking e.start k) (sym own) tt) (subst (λ (k : RowKind). AnswersPrompt e.start k) (sym own) tt)
 
--- a refusal behind it
-pub refused_lasts : (e : InEvent) (req : ReqId) (reason : Denial) → LastsInLog e.checking (log_of e []) → LastsInLog e.checking (log_of e (rows.Refused req reason ∷ []))
-refused_lasts e req reason lasts =
-    subst (λ (x : Seen). LastsInLog e.checking x) (sym (log_more e [] (rows.Refused req reason))) (record {
+-- a refusal behind it, of what isn't in its check
+pub refused_lasts : (e : InEvent) (req : ReqId) (reason : Denial) → {table : List Load} → e.checking req ≡ false → LastsInLog e.checking table (log_of e []) → LastsInLog e.checking table (log_of e (rows.Refused req reason ∷ []))
+refused_lasts e req reason {table} off lasts =
+    subst (λ (x : Seen). LastsInLog e.checking table x) (sym (log_more e [] (rows.Refused req reason))) (record {
       checks = row_checks e.checking (log_of e []) (row_of e (rows.Refused req reason)) tt tt lasts.checks;
+      asking = row_asking e.checking (log_of e []) e.event e.actor table lasts.asking (rows.Refused req reason) off;
       shows = refused_under (log_of e []) e.event e.actor req reason lasts.shows;
       duly = row_duly (log_of e []) e.event e.actor lasts.duly (rows.Refused req reason) tt;
       known = known_on (log_of e []) (row_of e (rows.Refused req reason)) tt tt tt tt lasts.known;

@@ -203,7 +203,7 @@ module _ (e : InEvent) (proc : ProcId) (report : Report) (made : Made) (del : Is
       (subst (λ (l : List Document). length l ≤ s.jobs + 1) (sym heard_documents) stands.tied.few)
 
   -- with this at hand, and what waits
-  pub heard_begun : HasLogged e t.checks → HasRoomFor (seen_start e) → t.kept.keep ≡ e.header.keep → (hand : List Made) → IsTab t.running check.loads hand heard → AreHeldUp t.running heard → (left : Queue) → IsQueueing (record { event = e; loads = check.loads; hand = hand }) [] t left → HasBegun (record { event = e; loads = check.loads; hand = hand }) t left blame
+  pub heard_begun : HasLogged e t.checks t.asking → HasRoomFor (seen_start e) → t.kept.keep ≡ e.header.keep → (hand : List Made) → IsTab t.running check.loads hand heard → AreHeldUp t.running heard → (left : Queue) → IsQueueing (record { event = e; loads = check.loads; hand = hand }) [] t left → HasBegun (record { event = e; loads = check.loads; hand = hand }) t left blame
   heard_begun logged room header hand tab held left queueing =
       begun (record { event = e; loads = check.loads; hand = hand }) t left blame stands.between stands.lasts stands.tied.goal header logged (ap (λ (k : RowKind). leads k) del.own) (subst (λ (a : Actor). IsWorker a) (sym del.by_coord) tt)
       heard_tied

@@ -1,4 +1,5 @@
 -- The coordinator of a tab that was just opened stands for its log.
+use Rattle.tab_doors.proofs.AskingLoads.{opened_asking}
 use Rattle.asking_facts.proofs.Passed.{known_nothing, known_on}
 use Rattle.checking_facts.proofs.Rows.{none_checks}
 use Rattle.leave_facts.proofs.Carried.{opened_duly}
@@ -245,7 +246,6 @@ module _ (address : List ℕ) (proc : ProcId) where
       record {
         lasting = opened_lasting 0 actors.Start (record { maker = 0; nr = 1 }) (record { 0 = 1 }) (record { 0 = 1 }) proc None address;
         counted = record {
-          states = omega arith;
           entries = omega arith;
           epochs = λ nav p found. (let one : 1 ≡ p.epoch.0 = ap (λ (x : Place). x.epoch.0) (only_place nav p found) in omega (arith, one));
         };
@@ -266,10 +266,11 @@ module _ (address : List ℕ) (proc : ProcId) where
       }
 
   -- and of the log itself
-  pub fresh_lasts : (checking : ReqId → Bool) → LastsInLog checking s
+  pub fresh_lasts : (checking : ReqId → Bool) → LastsInLog checking [] s
   fresh_lasts checking =
       record {
-        checks = none_checks checking s refl;
+        checks = none_checks checking s refl refl;
+        asking = opened_asking checking s refl;
         shows = shows;
         duly = opened_duly 0 actors.Start (record { maker = 0; nr = 1 }) (record { 0 = 1 }) (record { 0 = 1 }) proc None address;
         known = known_on nothing (record { event = 0; actor = actors.Start; row = rows.Opened (record { maker = 0; nr = 1 }) (record { 0 = 1 }) (record { 0 = 1 }) proc None address }) tt tt tt tt known_nothing;

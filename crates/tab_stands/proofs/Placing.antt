@@ -281,9 +281,9 @@ module _ (e : InEvent) (proc : ProcId) (job : Job) (outcome : Outcome) (del : Is
     abbrev p : InPass
     p = record { event = e; loads = check.loads; hand = [] }
 
-    pub placed_begun : HasLogged e t.checks → HasRoomFor (seen_start e) → t.kept.keep ≡ e.header.keep → (left : Queue) → left ≡ record queue { waiting = queue.waiting ++ step_ready t.loads job.doc } → (noted : List (StateId × ReqId)) → IsMadeNoted (now_of e []) blame noted job.doc state → HasBegun (record { event = e; loads = check.loads; hand = [] }) u left noted
+    pub placed_begun : HasLogged e t.checks t.asking → HasRoomFor (seen_start e) → t.kept.keep ≡ e.header.keep → (left : Queue) → left ≡ record queue { waiting = queue.waiting ++ step_ready t.loads job.doc } → (noted : List (StateId × ReqId)) → IsMadeNoted (now_of e []) blame noted job.doc state → HasBegun (record { event = e; loads = check.loads; hand = [] }) u left noted
     placed_begun logged room header left pushed noted notes =
-        begun p u left noted (between_as t u kept s stands.between) (lasts_as t u kept s stands.lasts) (goal_as t u kept s.requests stands.tied.goal) (kept.keep ∙ header) (subst (λ (es : List (ReqId × OpenCheck)). HasLogged e es) (sym kept.checks) logged) (ap (λ (k : RowKind). leads k) del.own) (subst (λ (a : Actor). IsWorker a) (sym del.by_coord) tt)
+        begun p u left noted (between_as t u kept s stands.between) (lasts_as t u kept s stands.lasts) (goal_as t u kept s.requests stands.tied.goal) (kept.keep ∙ header) (subst (λ (es : List (ReqId × OpenCheck)). HasLogged e es u.asking) (sym kept.checks) (subst (λ (l : List Load). HasLogged e t.checks l) (sym one.asking) logged)) (ap (λ (k : RowKind). leads k) del.own) (subst (λ (a : Actor). IsWorker a) (sym del.by_coord) tt)
         tied
         (subst (λ (r : Option ReqId). IsGoing r check.loads [] (now_of e [])) (sym kept.running) (told_going e proc del.by_coord del.own t queue blame stands aside report del.first same room check.loads [] (did_tab e proc job outcome del t queue blame stands aside) (told_held e proc del.by_coord del.own t queue blame stands aside report del.first same (did_parked e proc job outcome del t queue blame stands aside)) (rw (places_now e proc job outcome del t queue blame stands aside nav state address initial task) stands.lasts.counted.epochs)))
         (told_rests e proc del.by_coord del.own t queue blame stands aside report del.first)

@@ -42,7 +42,7 @@ use Rattle.tab_doors.specs.declared.tables.Tables.{Tables}
 use Rattle.tab_facts.specs.TabEvents.Between.{IsBetweenChecks}
 use Rattle.tab_settles.proofs.Lates.{unstood_by}
 use Rattle.tab_settles.proofs.PassedOn.{AreUpTo, IsBegun, causes_on, fine, serve_on, steps_still, waiting_first}
-use Rattle.tab_settles.specs.PassedOn.{AreHeldUp, AreLeftStrays, IsGoing, IsStray, IsTab, LoadsMadeOwn, MayCause, count_of, has_ended, has_spent}
+use Rattle.tab_settles.specs.PassedOn.{AreHeldUp, AreLeftStrays, IsGoing, IsStray, IsTab, LoadsMadeOwn, MayCause, count_of, has_ended}
 use Rattle.tab_ids.specs.declared.NavId.{NavId}
 use Rattle.tab_ids.specs.declared.ProcId.{ProcId}
 use Rattle.tab_ids.specs.declared.ReqId.{ReqId}
@@ -149,7 +149,6 @@ module _ (e : InEvent) (proc : ProcId) (by_coord : e.actor ≡ actors.Coord) (ow
               tab = tab;
               lasting = delivered_lasting s e.event actors.Coord stands.lasts.lasting proc told_fine;
               counted = record {
-                states = subst (λ (l : List Asked). s.states ≤ 1 + count_of has_spent l) (sym same) stands.lasts.counted.states;
                 entries = subst (λ (l : List Asked). s.entries ≤ 1 + count_of has_ended l) (sym same) stands.lasts.counted.entries;
                 epochs = epochs;
               };

@@ -188,7 +188,7 @@ module _ (e : InEvent) (proc : ProcId) (job : Job) (outcome : Outcome) (del : Is
     abbrev p : InPass
     p = record { event = e; loads = check.loads; hand = [] }
 
-    begun_noted : HasLogged e t.checks → HasRoomFor (seen_start e) → t.kept.keep ≡ e.header.keep → HasBegun (record { event = e; loads = check.loads; hand = [] }) noted queue blame
+    begun_noted : HasLogged e t.checks t.asking → HasRoomFor (seen_start e) → t.kept.keep ≡ e.header.keep → HasBegun (record { event = e; loads = check.loads; hand = [] }) noted queue blame
     begun_noted logged room header =
         begun p noted queue blame stands.between stands.lasts stands.tied.goal header logged (ap (λ (k : RowKind). leads k) del.own) (subst (λ (a : Actor). IsWorker a) (sym del.by_coord) tt)
         tied
@@ -197,6 +197,6 @@ module _ (e : InEvent) (proc : ProcId) (job : Job) (outcome : Outcome) (del : Is
         (told_comes e proc del.by_coord del.own t queue blame stands aside report del.first same g (arrives_at d.nav job) places_are documents_same)
         (did_queueing e proc job outcome del t queue blame stands aside asks noted kept_run logged.logged.uncut queue (did_queue e proc job outcome del t queue blame stands aside asks documents_same) refl)
 
-    pub shown_begun : HasLogged e t.checks → HasRoomFor (seen_start e) → t.kept.keep ≡ e.header.keep → (u : Tables) → u ≡ record t { tree = shown_tree t job.doc job.nr } → HasBegun (record { event = e; loads = check.loads; hand = [] }) u queue blame
+    pub shown_begun : HasLogged e t.checks t.asking → HasRoomFor (seen_start e) → t.kept.keep ≡ e.header.keep → (u : Tables) → u ≡ record t { tree = shown_tree t job.doc job.nr } → HasBegun (record { event = e; loads = check.loads; hand = [] }) u queue blame
     shown_begun logged room header u is =
         subst (λ (x : Tables). HasBegun (record { event = e; loads = check.loads; hand = [] }) x queue blame) (sym is) (begun_noted logged room header)

@@ -83,7 +83,7 @@ theirs_ended s n req its theirs r q made at load makes =
     by_home (Some d) there same =
         record { d = d; found = there; nav_is = ap (λ (w : Wish). nav_of_request w.what) (sym asked.2) ∙ had.nav_is ∙ sym same }
 
-module _ (e : InEvent) (proc : ProcId) (report : Report) (made : Made) (del : IsSeenDelivery e proc report) (tells : IsToldOf report made) (t : Tables) (queue : Queue) (blame : List (StateId × ReqId)) {check : InCheck} (stands : StandsFor check (seen_start e) t queue blame) (aside : IsOwnRead e) (changes : changes_history made.what ≡ true) (free : is_held_back (seen_start e) made ≡ false) (logged : HasLogged e t.checks) (room : HasRoomFor (seen_start e)) (header : t.kept.keep ≡ e.header.keep) (out : List RowKind) (u : Tables) (noted : List (StateId × ReqId)) (taken : HasTaken (record { event = e; loads = check.loads; hand = made ∷ [] }) t made [] out u noted) where
+module _ (e : InEvent) (proc : ProcId) (report : Report) (made : Made) (del : IsSeenDelivery e proc report) (tells : IsToldOf report made) (t : Tables) (queue : Queue) (blame : List (StateId × ReqId)) {check : InCheck} (stands : StandsFor check (seen_start e) t queue blame) (aside : IsOwnRead e) (changes : changes_history made.what ≡ true) (free : is_held_back (seen_start e) made ≡ false) (logged : HasLogged e t.checks t.asking) (room : HasRoomFor (seen_start e)) (header : t.kept.keep ≡ e.header.keep) (out : List RowKind) (u : Tables) (noted : List (StateId × ReqId)) (taken : HasTaken (record { event = e; loads = check.loads; hand = made ∷ [] }) t made [] out u noted) where
   abbrev s : Seen
   s = seen_start e
 

@@ -1,5 +1,7 @@
 -- What a coordinator of a tab with loads keeps between two events, and how an event of it begins and ends.
 -- HTML Standard, "session history traversal queue", "apply the history step" and "checking if unloading is canceled"; that nobody dies in such a tab is this project's own premise.
+use Rattle.tab_doors.specs.AskingLoads.{TiesAsking}
+use Rattle.load_table.specs.declared.load.Load.{Load}
 use Rattle.asking_facts.specs.Known.{AskingKnown}
 use Rattle.checking_facts.specs.Checks.{AreInCheck}
 use Rattle.leave_facts.proofs.Carried.{AreLeftDuly}
@@ -59,9 +61,10 @@ pub record Lasts (run : Option ReqId) (s : Seen) : Type 0 where
   -- why a navigable that is shown may not stand
   pub off : AreOffKnown run s
 
--- what lasts of the log itself: it is known who is in a check; which navigables were shown a document, as their epochs tell; whom requests leave was asked; and of questions, prompts and answers it is known what is to be known
-pub record LastsInLog (checking : ReqId → Bool) (s : Seen) : Type 0 where
+-- what lasts of the log itself: it is known who is in a check, and the table tells of the loads that are; which navigables were shown a document, as their epochs tell; whom requests leave was asked; and of questions, prompts and answers it is known what is to be known
+pub record LastsInLog (checking : ReqId → Bool) (table : List Load) (s : Seen) : Type 0 where
   pub checks : AreInCheck checking s
+  pub asking : TiesAsking checking s table
   pub shows : AreShownUnder s
   pub duly : AreLeftDuly s
   pub known : AskingKnown s
@@ -106,9 +109,9 @@ pub record StartsUnasked (e : InEvent) : Type 0 where
   pub plain : StartsPlain e
 
 -- the event's own row was logged: what is known then of the log itself, and what lasts of it; and the row passes, if what comes later has what it asks
-pub record HasLogged (e : InEvent) (checks : List (ReqId × OpenCheck)) : Type 0 where
+pub record HasLogged (e : InEvent) (checks : List (ReqId × OpenCheck)) (table : List Load) : Type 0 where
   pub logged : IsLogged e checks
-  pub lasts : LastsInLog e.checking (log_of e [])
+  pub lasts : LastsInLog e.checking table (log_of e [])
   pub lawful : AreLawfulFor None e checks []
 
 -- there is room for the requests that an event may accept
@@ -139,12 +142,12 @@ IsTakenUp e out = (later : List LogRow) → IsTakenIn e (later_of e out ++ later
 -- an event in which nobody was asked ends with these rows, each of which passes, and in which the coordinator does nothing: it stands for what the log has come to
 pub record HasIdled (check : InCheck) (e : InEvent) (out : List RowKind) (t : Tables) (queue : Queue) (blame : List (StateId × ReqId)) : Type 0 where
   pub stands : StandsFor check (log_of e out) t queue blame
-  pub lasts : LastsInLog e.checking (log_of e out)
+  pub lasts : LastsInLog e.checking t.asking (log_of e out)
   pub passes : EachPass (start_of e) (rows_of e out) []
 
 -- the event ends with these rows, each of which passes; the coordinator stands for what the log would have come to had nobody been asked, with this in its check; what lasts of the log itself lasts, and the table of checks stands for it
 pub record HasActed (check : InCheck) (e : InEvent) (out : List RowKind) (t : Tables) (queue : Queue) (blame : List (StateId × ReqId)) : Type 0 where
   pub stands : StandsFor check (now_of e out) t queue blame
-  pub lasts : LastsInLog e.checking (log_of e out)
+  pub lasts : LastsInLog e.checking t.asking (log_of e out)
   pub asks : ChecksStand e.checking (log_of e out) t.checks
   pub passes : EachPass (start_of e) (rows_of e out) []

@@ -1,4 +1,5 @@
 -- The user stays, and the traversal is dropped: its step leaves the queue, no step is in its check any more, and a pass may follow.
+use Rattle.tab_doors.specs.AskingLoads.{TiesAsking}
 use Rattle.load_doors.proofs.Starts.{requests_start}
 use Rattle.load_doors.specs.Tied.{AreTied}
 use Rattle.log_model.specs.After.{after}
@@ -92,7 +93,7 @@ ended_step z = by_start z.is_started
     by_start true = refl
     by_start false = refl
 
-module _ (e : InEvent) (t : Tables) (queue : Queue) (blame : List (StateId × ReqId)) {check : InCheck} (stands : StandsFor check (seen_start e) t queue blame) (lasts : LastsInLog e.checking e.start) (asks : ChecksStand e.checking e.start t.checks) (holds : check.holds ≡ true) (room : HasRoomFor e.start) (header : t.kept.keep ≡ e.header.keep) (uncut : e.before ≡ []) (req : ReqId) (q : Asked) (stay : IsToStay e req q) (delta : ℤ) (rest : List QueueStep) (front : queue.waiting ≡ Traverse req delta ∷ rest) where
+module _ (e : InEvent) (t : Tables) (queue : Queue) (blame : List (StateId × ReqId)) {check : InCheck} (stands : StandsFor check (seen_start e) t queue blame) (lasts : LastsInLog e.checking t.asking e.start) (asks : ChecksStand e.checking e.start t.checks) (holds : check.holds ≡ true) (room : HasRoomFor e.start) (header : t.kept.keep ≡ e.header.keep) (uncut : e.before ≡ []) (req : ReqId) (q : Asked) (stay : IsToStay e req q) (delta : ℤ) (rest : List QueueStep) (front : queue.waiting ≡ Traverse req delta ∷ rest) where
   abbrev x : InEvent
   x = plain e actors.Ui (rows.Answered req true)
 
@@ -277,9 +278,13 @@ module _ (e : InEvent) (t : Tables) (queue : Queue) (blame : List (StateId × Re
         kept = tied_n.kept;
       })
 
+  -- the loads in their checks are those of before
+  asking_there : TiesAsking e.checking (log_of x (stayed req)) u.asking
+  asking_there = (log.stays_lasts e t.checks asks lasts req q stay unparked_log).asking
+
   work : IsAtWork (cut_stayed x req) [] u
   work =
-      work_behind None x (stayed req) e.checking (λ end. true) u log.nobody refl tt lasts.checks.numbered (log.sole_there e t.checks asks lasts req q stay unparked_log) (log.debts_there e t.checks asks lasts req q stay unparked_log) (log.stands_there e t.checks asks lasts req q stay unparked_log) ties (log.begins_there e t.checks asks lasts req q stay unparked_log).calm
+      work_behind None x (stayed req) e.checking (λ end. true) u log.nobody refl tt lasts.checks.numbered (log.sole_there e t.checks asks lasts req q stay unparked_log) (log.debts_there e t.checks asks lasts req q stay unparked_log) (log.stands_there e t.checks asks lasts req q stay unparked_log) ties asking_there (log.begins_there e t.checks asks lasts req q stay unparked_log).calm
 
   loose : IsLoose (cut_stayed x req) []
   loose end lasts_ = refl

@@ -1,4 +1,9 @@
 -- The user stays, and the traversal is dropped: what is known of the log and of its checks then, where the event is cut.
+use Rattle.seen_facts.proofs.LoadTies.Ends.{dropped_ended}
+use Rattle.tab_doors.proofs.Keeping.{traversal_no_load}
+use Rattle.tab_doors.proofs.AskingLoads.{asking_ended}
+use Rattle.tab_doors.specs.AskingLoads.{TiesAsking}
+use Rattle.tab_doors.specs.PassedOn.{Load}
 use Rattle.asking_facts.proofs.Notes.{between_notes}
 use Rattle.asking_facts.proofs.Passed.{known_on}
 use Rattle.asking_facts.proofs.Standing.{stands_cut}
@@ -13,7 +18,7 @@ use Rattle.checking_facts.specs.Prompts.{PassIf}
 use Rattle.log_model.specs.After.{after}
 use Rattle.log_model.specs.Checks.{is_checked}
 use Rattle.log_model.specs.Equal.{has_req}
-use Rattle.log_model.specs.Places.{all_asked, is_load, is_reload}
+use Rattle.log_model.specs.Places.{all_asked, is_load, is_reload, is_ongoing_load, is_under_way}
 use Rattle.log_model.specs.Seen.{Asked, Asking, Seen, request_of}
 use Rattle.log_model.specs.declared.outcome.Cause.TheVariants as drops
 use Rattle.log_model.specs.declared.outcome.Ending.TheVariants as endings
@@ -57,7 +62,7 @@ none_before : (r : ReqId) (goal : Option Step) (before later : List RowKind) →
 none_before r goal [] later is = cc
 none_before r goal (kind ∷ before) later is = cc
 
-module _ (e : InEvent) (es : List (ReqId × OpenCheck)) (asks : ChecksStand e.checking e.start es) (lasts : LastsInLog e.checking e.start) (req : ReqId) (q : Asked) (stay : IsToStay e req q) (unparked : has_req e.start.parked req ≡ false) where
+module _ (e : InEvent) (es : List (ReqId × OpenCheck)) (asks : ChecksStand e.checking e.start es) {table : List Load} (lasts : LastsInLog e.checking table e.start) (req : ReqId) (q : Asked) (stay : IsToStay e req q) (unparked : has_req e.start.parked req ≡ false) where
   -- the event, with its actor and its own row
   abbrev pub x : InEvent
   x = plain e actors.Ui (rows.Answered req true)
@@ -90,12 +95,32 @@ module _ (e : InEvent) (es : List (ReqId × OpenCheck)) (asks : ChecksStand e.ch
   said_known : AskingKnown (log_of x [])
   said_known = known_on e.start (row_of x (rows.Answered req true)) tt tt (λ y at. subst (λ (z : Asked). is_some z.prompted ≡ true) (let both : Some q ≡ Some y = sym stay.at ∙ at in let same : q ≡ y = cc in same) up) tt lasts.known
 
-  pub stays_lasts : LastsInLog e.checking dropped
-  stays_lasts =
-      dropped_lasts e.checking (log_of x []) e.event actors.Ui (answered_lasts e.checking e.start e.event actors.Ui lasts req true stay.on said_known) req drops.Stay (stays.stays_known e.header e.start e.event e.checking req es asks lasts.known q stay.at checked stay.awaits unparked)
+  answered_then : LastsInLog e.checking table (log_of x [])
+  answered_then = answered_lasts e.checking e.start e.event actors.Ui lasts req true stay.on said_known
 
-  pub lasts_there : LastsInLog e.checking (log_of (cut_stayed x req) [])
-  lasts_there = at_cut (LastsInLog e.checking) stays_lasts
+  -- it is no load
+  asking_then : TiesAsking e.checking dropped table
+  asking_then =
+      asking_ended e.checking (log_of x []) table answered_then.asking req dropped (dropped_ended (log_of x []) e.event actors.Ui req drops.Stay) (λ y at. no_load y at)
+    where
+      no_load : (y : Asked) → request_of (log_of x []) req ≡ Some y → is_ongoing_load y ≡ false
+      no_load y at =
+          let was = was_asked (λ (z : Asked). z.what) e.start.requests (log_of x []).requests (on_read (λ (z : Asked). z.what) e.start.requests req (λ z. record z { answered = Some true }) (λ z. refl)) req y at in
+          let both : Some q ≡ Some was.0 = sym stay.at ∙ was.1 in
+          let same : q ≡ was.0 = cc in
+          let none : is_load y.what ≡ false = ap is_load (sym was.2) ∙ ap (λ (z : Asked). is_load z.what) (sym same) ∙ traversal_no_load q.what stay.goes in
+          rw none (neither (is_under_way y))
+
+      neither : (b : Bool) → (b && false) ≡ false
+      neither true = refl
+      neither false = refl
+
+  pub stays_lasts : LastsInLog e.checking table dropped
+  stays_lasts =
+      dropped_lasts e.checking (log_of x []) e.event actors.Ui answered_then req drops.Stay asking_then (stays.stays_known e.header e.start e.event e.checking req es asks lasts.known q stay.at checked stay.awaits unparked)
+
+  pub lasts_there : LastsInLog e.checking table (log_of (cut_stayed x req) [])
+  lasts_there = at_cut (LastsInLog e.checking table) stays_lasts
 
   pub stays_stand : ChecksStand e.checking dropped (ended req es)
   stays_stand = stays.stays_asks e.header e.start e.event e.checking req es asks lasts.known q stay.at checked stay.awaits unparked

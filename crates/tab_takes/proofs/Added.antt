@@ -1,4 +1,5 @@
 -- What a document made is applied: a frame is added to it, which sleeps and was never shown a document.
+use Rattle.tab_doors.proofs.Rooms.{states_fit}
 use Rattle.leave_facts.proofs.Frames.{nobodys_yet}
 use Rattle.leave_facts.proofs.Applied.{FitsWell}
 use Rattle.tab_facts.specs.Calm.Calm.{AreRooted, CalmUnless, IsCalmYet, IsHere, IsRooted, UnmovedAreHere}
@@ -19,12 +20,11 @@ use Rattle.address.specs.Addresses.{blank_text}
 use Rattle.log_model.specs.History.{History, first_step, fits, has_nav, has_row, has_state, is_of}
 use Rattle.log_model.specs.Once.{change_of_made, next_entry_of, next_state}
 use Rattle.log_model.specs.Orders.{is_usable}
-use Rattle.log_model.specs.Places.{aim_of, holder_of, is_awake, is_below, is_load, is_shown, way_to}
+use Rattle.log_model.specs.Places.{aim_of, holder_of, is_awake, is_below, is_shown, way_to}
 use Rattle.log_model.specs.Seen.{Asked, Document, Place, Seen, asleep, awake, document_of, place_of, request_in}
 use Rattle.log_model.specs.declared.change.Change.{Change}
 use Rattle.log_model.specs.declared.made.Made.{Made}
 use Rattle.log_model.specs.declared.made.What.{What}
-use Rattle.log_model.specs.declared.outcome.Ending.{Ending}
 use Rattle.log_model.specs.declared.row.Row.{Row}
 use Rattle.log_model.specs.declared.row_kind.RowKind.{RowKind}
 use Rattle.seen_facts.specs.Mover.Movers.{IsMovedBy}
@@ -45,7 +45,7 @@ use Rattle.tab_doors.specs.Ties.{AreTied}
 use Rattle.tab_doors.specs.Working.{IsAtWork, KeepsRun}
 use Rattle.tab_doors.specs.declared.tables.Tables.{Tables}
 use Rattle.tab_rests.proofs.PassedOn.{IsBare, IsBlamed, IsUnsettled, MayServe, ParentsShown, StandOrBare, TakersServe, added_going, added_tab, count_few, fresh, new_state, new_to, serve_on, tab_placed, way_same}
-use Rattle.tab_rests.specs.PassedOn.{AreBlamed, InPass, IsGoing, IsLoadOf, IsOpen, MayStand, StandOrMove, aim_in, count_of, has_ended, has_spent}
+use Rattle.tab_rests.specs.PassedOn.{AreBlamed, InPass, IsGoing, IsLoadOf, IsOpen, MayStand, StandOrMove, aim_in, count_of, has_ended}
 use Rattle.tab_ids.specs.declared.DocId.{DocId}
 use Rattle.tab_ids.specs.declared.EntryId.{EntryId}
 use Rattle.tab_ids.specs.declared.NavId.{NavId}
@@ -89,8 +89,7 @@ module _ (p : InPass) (out : List RowKind) (t : Tables) (blame : List (StateId �
   now = now_ p out t blame made at told
 
   pub states_room : t.states + 1 < 4294967296
-  states_room =
-      (let low : now.states ≤ 1 + count_of has_spent now.requests = at.passing.going.counted.states in let few = count_few has_spent now.requests in let room = at.passing.going.room in let same : t.states ≡ now.states = at.passing.work.holds.states in omega (arith, low, few, room, same))
+  states_room = states_fit p.event out t at.passing.work at.passing.going.room
 
   pub entries_room : t.entries + 1 < 4294967296
   entries_room =
@@ -254,17 +253,9 @@ module _ (p : InPass) (out : List RowKind) (t : Tables) (blame : List (StateId �
         loads_same p out t blame made at n
         (added_tab t.running p.loads p.hand s ev.event ev.actor tab made.req (q p out t blame made at told) at.taking.there at.taking.open_ (apart_run p out t blame made at) (carried p out t blame made at) ends its.d.state nav fit)
 
-    unspent : has_spent (q p out t blame made at told) ≡ false
-    unspent = neither (is_some (q p out t blame made at told).ending) (is_load (q p out t blame made at told).what) (q p out t blame made at told).is_started (ap (λ (o : Option Ending). is_some o) at.taking.open_) at.taking.unstarted
-      where
-        neither : (a b c : Bool) → a ≡ false → c ≡ false → (a || (b && c)) ≡ false
-        neither true b c one two = absurd cc
-        neither false true c one two = two
-        neither false false c one two = refl
-
     going_n : IsGoing t.running p.loads left n
     going_n =
-        added_going t.running p.loads p.hand s ev.event ev.actor at.passing.going made.req (q p out t blame made at told) at.taking.there at.taking.open_ its.d.state nav (next_entry_of s) (next_state s) state_has unspent p.loads left tab_n (added_lasting s ev.event ev.actor at.passing.going.lasting made.req its.d.state nav (next_entry_of s) (next_state s) unused)
+        added_going t.running p.loads p.hand s ev.event ev.actor at.passing.going made.req (q p out t blame made at told) at.taking.there at.taking.open_ its.d.state nav (next_entry_of s) (next_state s) state_has p.loads left tab_n (added_lasting s ev.event ev.actor at.passing.going.lasting made.req its.d.state nav (next_entry_of s) (next_state s) unused)
 
     abbrev new : Place
     new = new_place made.req nav its.d.state its.place

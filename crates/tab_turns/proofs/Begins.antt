@@ -200,7 +200,7 @@ module _ (p : InPass) (out : List RowKind) (t : Tables) (passing : IsPassing p o
 
       going_then : s.parked ≡ [] → IsGoing (Some req) p.loads p.hand n
       going_then none =
-          begun_going None p.loads p.hand s e.event e.actor going req its.q its.at (Some goal) (no_load its.q.what its.goes) none p.loads p.hand tab_then (started_lasting s e.event e.actor going.lasting req (Some goal))
+          begun_going None p.loads p.hand s e.event e.actor going req its.q its.at (Some goal) none p.loads p.hand tab_then (started_lasting s e.event e.actor going.lasting req (Some goal))
 
       turned : IsTurned s n
       turned =

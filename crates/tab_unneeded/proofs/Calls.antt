@@ -41,7 +41,7 @@ passing_for : (b : Bool) (p : InPass) (out : List RowKind) (t : Tables) → IsPa
 passing_for true p out t pass = swept_on p out t pass
 passing_for false p out t pass = pass
 
-module _ (m : InMade) (doc : DocId) (state : StateId) (why : Why) (its : IsMadeUnneeded m doc state why) (t : Tables) {check : InCheck} (stands : StandsFor check (seen_start m.event) t m.queue m.noted) (room : HasRoomFor (seen_start m.event)) (header : t.kept.keep ≡ m.event.header.keep) (logged : HasLogged m.event t.checks) where
+module _ (m : InMade) (doc : DocId) (state : StateId) (why : Why) (its : IsMadeUnneeded m doc state why) (t : Tables) {check : InCheck} (stands : StandsFor check (seen_start m.event) t m.queue m.noted) (room : HasRoomFor (seen_start m.event)) (header : t.kept.keep ≡ m.event.header.keep) (logged : HasLogged m.event t.checks t.asking) where
   -- the tables have its process
   pub proc_as : IsSome (proc_in t.whose.entries doc)
   proc_as =

@@ -99,10 +99,10 @@ module _ (e : InEvent) (proc : ProcId) (job : Job) (outcome : Outcome) (del : Is
         subst (λ (x : Seen). length x.kept ≤ u.kept.keep) (sym (did_now e proc job outcome del t queue blame stands aside))
         (subst (λ (l : List DocId). length l ≤ u.kept.keep) (sym (told_kept e proc del.by_coord del.own t queue blame stands aside report del.first)) (subst (λ (k : ℕ). length s.kept ≤ k) (sym kept.keep) stands.between.few))
 
-    pub noted_passing : HasLogged e t.checks → HasRoomFor (seen_start e) → IsPassing (record { event = e; loads = check.loads; hand = [] }) [] u
+    pub noted_passing : HasLogged e t.checks t.asking → HasRoomFor (seen_start e) → IsPassing (record { event = e; loads = check.loads; hand = [] }) [] u
     noted_passing logged room =
         record {
-          work = work_first e u (subst (λ (es : List (ReqId × OpenCheck)). HasLogged e es) (sym kept.checks) logged) own_leads (subst (λ (a : Actor). IsWorker a) (sym del.by_coord) tt) noted_tied;
+          work = work_first e u (subst (λ (es : List (ReqId × OpenCheck)). HasLogged e es u.asking) (sym kept.checks) (subst (λ (l : List Load). HasLogged e t.checks l) (sym one.asking) logged)) own_leads (subst (λ (a : Actor). IsWorker a) (sym del.by_coord) tt) noted_tied;
           going = subst (λ (r : Option ReqId). IsGoing r check.loads [] (now_of e [])) (sym kept.running) (told_going e proc del.by_coord del.own t queue blame stands aside report del.first same room check.loads [] (did_tab e proc job outcome del t queue blame stands aside) (told_held e proc del.by_coord del.own t queue blame stands aside report del.first same (did_parked e proc job outcome del t queue blame stands aside)) (rw (places_now e proc job outcome del t queue blame stands aside nav state address initial task) stands.lasts.counted.epochs));
           owed = loose_owed e [] (loose_first e logged.logged.undue);
           loose = λ all. loose_first e logged.logged.undue;

@@ -32,7 +32,7 @@ pub fn discard_made(
     requires room { HasRoomFor (seen_start m.event) }
     requires stands { StandsFor m.check (seen_start m.event) tables.old m.queue m.noted }
     requires made { IsMadeUnneeded m doc state why }
-    requires logged { HasLogged m.event tables.old.checks }
+    requires logged { HasLogged m.event tables.old.checks tables.old.asking }
     requires free { MayDiscardIn m.check.holds m.event }
     ensures out { OnOk result (out.new ≡ rows.Sent (order_to (now_of m.event []) doc why tasks.Discard) ∷ []) }
     ensures ready { OnOk result (IsReadyThen m out.new tables.new) }

@@ -40,7 +40,7 @@ use Rattle.log_model.specs.declared.job.Task.TheVariants as tasks
 use Rattle.log_model.specs.declared.job.Why.TheVariants as whys
 use Rattle.log_model.specs.declared.row_kind.RowKind.TheVariants as rows
 
-module _ (e : InEvent) (state : StateId) (asks : IsEvictAsk e state) (t : Tables) (queue : Queue) (blame : List (StateId × ReqId)) {check : InCheck} (stands : StandsFor check (seen_start e) t queue blame) (logged : IsLogged e t.checks) (logs : LastsInLog e.checking (log_of e [])) (room : HasRoomFor (seen_start e)) (free : MayDiscardIn check.holds e) where
+module _ (e : InEvent) (state : StateId) (asks : IsEvictAsk e state) (t : Tables) (queue : Queue) (blame : List (StateId × ReqId)) {check : InCheck} (stands : StandsFor check (seen_start e) t queue blame) (logged : IsLogged e t.checks) (logs : LastsInLog e.checking t.asking (log_of e [])) (room : HasRoomFor (seen_start e)) (free : MayDiscardIn check.holds e) where
   abbrev n : Seen
   n = now_of e []
 
@@ -86,7 +86,7 @@ module _ (e : InEvent) (state : StateId) (asks : IsEvictAsk e state) (t : Tables
       pub evicted_as : IsEvicted e t doc own
       evicted_as =
           subst (λ (x : StateId). IsEvicted e t doc x) (sym (longest_is own at))
-          (subst (λ (d : DocId). IsEvicted e t d state) doc_is (its_evicted e state asks t (tied_own e state asks t queue blame stands logged logs) (tab_own e state asks t queue blame stands logged logs) (were_own e state asks t queue blame stands logged logs) (due_own e state asks t queue blame stands logged logs) logged))
+          (subst (λ (d : DocId). IsEvicted e t d state) doc_is (its_evicted e state asks t (tied_own e state asks t queue blame stands logged logs) (tab_own e state asks t queue blame stands logged logs) (were_own e state asks t queue blame stands logged logs) (due_own e state asks t queue blame stands logged logs) logged logs.asking))
 
       -- ---- it was discarded
 

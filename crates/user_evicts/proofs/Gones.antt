@@ -69,7 +69,7 @@ without_itself doc (d ∷ docs) = by_test (d.0 == doc.0) refl (without_itself do
     by_test true same rest = rw same rest
     by_test false apart rest = rw apart (rw apart rest)
 
-module _ (e : InEvent) (state : StateId) (asks : IsEvictAsk e state) (t : Tables) (queue : Queue) (blame : List (StateId × ReqId)) {check : InCheck} (stands : StandsFor check (seen_start e) t queue blame) (logged : IsLogged e t.checks) (logs : LastsInLog e.checking (log_of e [])) (room : HasRoomFor (seen_start e)) (free : MayDiscardIn check.holds e) where
+module _ (e : InEvent) (state : StateId) (asks : IsEvictAsk e state) (t : Tables) (queue : Queue) (blame : List (StateId × ReqId)) {check : InCheck} (stands : StandsFor check (seen_start e) t queue blame) (logged : IsLogged e t.checks) (logs : LastsInLog e.checking t.asking (log_of e [])) (room : HasRoomFor (seen_start e)) (free : MayDiscardIn check.holds e) where
   abbrev n : Seen
   n = now_of e []
 

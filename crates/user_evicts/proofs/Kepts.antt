@@ -1,4 +1,5 @@
 -- The document that is kept longest, as the user evicts it: nobody is awake on it, and the tables have it for its state alone.
+use Rattle.tab_doors.specs.AskingLoads.{TiesAsking}
 use Rattle.load_doors.specs.Logged.{IsLogged}
 use Rattle.seen_facts.proofs.Hang.Hung.{places_distinct}
 use Rattle.seen_facts.proofs.Hang.Members.{has_map}
@@ -194,10 +195,11 @@ module _ (e : InEvent) (state : StateId) (asks : IsEvictAsk e state) (t : Tables
           let one : of_.it ≡ document = cc in
           ap (λ (y : Sight). y.state) (sym of_.is) ∙ ap (λ (y : Document). y.state) one ∙ due.state_is
 
-  pub its_evicted : IsLogged e t.checks → IsEvicted e t asks.doc state
-  its_evicted logged =
+  pub its_evicted : IsLogged e t.checks → TiesAsking e.checking (log_of e []) t.asking → IsEvicted e t asks.doc state
+  its_evicted logged asking =
       record {
         logged = logged;
+        asking = asking;
         by_user = asks.by_user;
         own = asks.own;
         was = asks.document;

@@ -57,7 +57,7 @@ pub evicted_takes : (e : InEvent) (state : StateId) → IsEvictAsk e state → (
 evicted_takes e state asks later =
     ap (λ (k : RowKind). is_delivered_duly (point_at (start_of e) later) (row_of e k)) asks.own
 
-module _ (e : InEvent) (state : StateId) (asks : IsEvictAsk e state) (t : Tables) (queue : Queue) (blame : List (StateId × ReqId)) {check : InCheck} (stands : StandsFor check (seen_start e) t queue blame) (logged : IsLogged e t.checks) (logs : LastsInLog e.checking (log_of e [])) where
+module _ (e : InEvent) (state : StateId) (asks : IsEvictAsk e state) (t : Tables) (queue : Queue) (blame : List (StateId × ReqId)) {check : InCheck} (stands : StandsFor check (seen_start e) t queue blame) (logged : IsLogged e t.checks) (logs : LastsInLog e.checking t.asking (log_of e [])) where
   abbrev s : Seen
   s = seen_start e
 
@@ -171,7 +171,7 @@ module _ (e : InEvent) (state : StateId) (asks : IsEvictAsk e state) (t : Tables
           record {
             tab = tab_went;
             lasting = evicted_lasting s e.event actors.Ui stands.lasts.lasting state;
-            counted = record { states = stands.lasts.counted.states; entries = stands.lasts.counted.entries; epochs = stands.lasts.counted.epochs };
+            counted = record { entries = stands.lasts.counted.entries; epochs = stands.lasts.counted.epochs };
             steps = steps_still s went stands.lasts.steps refl (omega arith);
             held = held;
             room = (let low : length s.requests + 3 < 4294967296 = room in omega (arith, low));

@@ -36,7 +36,7 @@ use Rattle.user_evicts.proofs.Takings.{aim_still, gone_moved, gone_taking, gone_
 use Rattle.user_evicts.specs.Evicting.{IsEvictAsk}
 use Rattle.log_model.specs.declared.job.Why.TheVariants as whys
 
-module _ (e : InEvent) (state : StateId) (asks : IsEvictAsk e state) (t : Tables) (queue : Queue) (blame : List (StateId × ReqId)) {check : InCheck} (stands : StandsFor check (seen_start e) t queue blame) (logged : IsLogged e t.checks) (logs : LastsInLog e.checking (log_of e [])) (room : HasRoomFor (seen_start e)) (free : MayDiscardIn check.holds e) (header : t.kept.keep ≡ e.header.keep) (out : List RowKind) (u : Tables) (keeps : KeepsStore t u) (letting : IsLetting (record { pass = record { event = e; loads = check.loads; hand = [] }; moved = None; sweeps = check.holds }) state whys.Evict out u) (only : HasOnlyDiscarded whys.Evict [] out) (stays : StaysPlaced (now_of e []) (now_of e out)) where
+module _ (e : InEvent) (state : StateId) (asks : IsEvictAsk e state) (t : Tables) (queue : Queue) (blame : List (StateId × ReqId)) {check : InCheck} (stands : StandsFor check (seen_start e) t queue blame) (logged : IsLogged e t.checks) (logs : LastsInLog e.checking t.asking (log_of e [])) (room : HasRoomFor (seen_start e)) (free : MayDiscardIn check.holds e) (header : t.kept.keep ≡ e.header.keep) (out : List RowKind) (u : Tables) (keeps : KeepsStore t u) (letting : IsLetting (record { pass = record { event = e; loads = check.loads; hand = [] }; moved = None; sweeps = check.holds }) state whys.Evict out u) (only : HasOnlyDiscarded whys.Evict [] out) (stays : StaysPlaced (now_of e []) (now_of e out)) where
   abbrev s : Seen
   s = now_of e []
 

@@ -1,4 +1,6 @@
 -- The document that the user evicts is discarded by the first row that is put out, and the coordinator is at work then.
+use Rattle.tab_doors.proofs.AskingLoads.{row_asking}
+use Rattle.tab_doors.specs.AskingLoads.{TiesAsking}
 use Rattle.tab_doors.proofs.PassedOn.{debts_own, read_more, read_own, sole_own}
 use Rattle.unasked.proofs.Nows.{sent_now, sent_goes}
 use Rattle.checking_facts.proofs.Besides.{ends_more}
@@ -109,6 +111,9 @@ module _ (sweeps : Bool) (e : InEvent) (t u : Tables) (doc : DocId) (state : Sta
         few = subst (λ (x : Seen). length x.documents ≤ x.jobs + 1) now_then (few_sent n.documents then_.documents n.jobs (length-map n.documents _) tied.few);
         initial = subst (λ (x : Seen). AreInitial x.initial_states u.initial.entries) now_then (initial_same n.initial_states t.initial.entries u.initial.entries one.initial tied.initial);
         loads = subst (λ (x : Seen). TiesLoads x u.loads) now_then (subst (λ (l : List Load). TiesLoads then_ l) (sym one.loads) (gone_tied n e.event e.actor t.loads tied.loads order refl unloaded));
+        asking =
+            subst (λ (x : Seen). TiesAsking e.checking x u.asking) (sym (log_more e [] (rows.Sent order)))
+            (subst (λ (l : List Load). TiesAsking e.checking (after (log_of e []) (row_of e (rows.Sent order))) l) (sym one.asking) (row_asking e.checking (log_of e []) e.event e.actor t.asking its.asking (rows.Sent order) tt));
         kept = kept_gone n doc (λ (x : Document). record x { is_discarded = true }) (λ x. refl) (λ x. refl) state its.own_state None t.kept u.kept tied.kept refl kept ∙ ap (λ (x : Seen). kept_states x) now_then;
         asked = asked_then one.checks;
         lawful = passes_then one.checks;

@@ -38,7 +38,7 @@ pub fn evict_longest(alloc: Global, tables: &mut Tables, out: &mut Out) -> Resul
     requires room { HasRoomFor (seen_start b.event) }
     requires stands { StandsFor b.check (seen_start b.event) tables.old b.queue b.noted }
     requires logged { IsLogged b.event tables.old.checks }
-    requires lasts { LastsInLog b.event.checking (log_of b.event []) }
+    requires lasts { LastsInLog b.event.checking tables.old.asking (log_of b.event []) }
     requires free { MayDiscardIn b.check.holds b.event }
     ensures came { OnOk result (HasEvicted b.event b.state out.new) }
     ensures ready { OnOk result (IsReadyThen b out.new tables.new) }

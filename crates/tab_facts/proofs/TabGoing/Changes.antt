@@ -3,18 +3,17 @@ use Rattle.seen_facts.proofs.Coord.Unread.{next}
 use Rattle.tab_facts.specs.Last.Lasting.{AreLasting}
 use Rattle.log_model.specs.AfterRequests.{on_request, request_begun}
 use Rattle.log_model.specs.History.{has_state}
-use Rattle.log_model.specs.Places.{is_load}
 use Rattle.log_model.specs.Seen.{Asked, Seen, request_of}
 use Rattle.log_model.specs.declared.change.Change.{Change}
 use Rattle.log_model.specs.declared.made.Made.{Made}
 use Rattle.log_model.specs.declared.row_kind.Actor.{Actor}
 use Rattle.log_model.specs.declared.row_kind.RowKind.{RowKind}
-use Rattle.std.proofs.Common.{Bool, List, None, Option, Some, [], ap, arith, cond, false, length, refl, sym, true, ℕ, ◌+◌, ◌<◌, ◌==◌, ◌∙◌, ◌≡◌, ◌≤◌}
-use Rattle.tab_facts.proofs.TabGoing.Counts.{applied_long, applied_more, applied_same, as_many, count_more, count_same}
+use Rattle.std.proofs.Common.{List, None, Option, Some, [], arith, cond, false, length, refl, true, ℕ, ◌+◌, ◌<◌, ◌==◌, ◌∙◌, ◌≡◌, ◌≤◌}
+use Rattle.tab_facts.proofs.TabGoing.Counts.{applied_long, applied_more, as_many, count_same}
 use Rattle.tab_facts.proofs.TabGoing.Epochs.{IsNoReload, applied_up}
 use Rattle.tab_facts.proofs.TabGoing.HeldUp.{applied_held, begun_held, none_held_up}
 use Rattle.tab_facts.proofs.TabGoing.Steps.{added_steps, pushed_steps, removed_steps, replaced_steps, steps_still, traversed_steps}
-use Rattle.tab_facts.specs.TabGoing.Going.{AreCounted, AreHeldUp, AreSteps, IsGoing, count_of, has_ended, has_spent}
+use Rattle.tab_facts.specs.TabGoing.Going.{AreCounted, AreHeldUp, AreSteps, IsGoing, count_of, has_ended}
 use Rattle.tab_ids.specs.declared.EntryId.{EntryId}
 use Rattle.tab_ids.specs.declared.NavId.{NavId}
 use Rattle.tab_ids.specs.declared.ReqId.{ReqId}
@@ -27,9 +26,6 @@ use Rattle.log_model.specs.declared.row_kind.RowKind.TheVariants as rows
 module _ (run : Option ReqId) (loads : List ReqId) (hand : List Made) (s : Seen) (event : ℕ) (actor : Actor) (going : IsGoing run loads hand s) (req : ReqId) (q : Asked) (there : request_of s req ≡ Some q) where
   abbrev then_ : RowKind → Seen
   then_ kind = next s event actor kind
-
-  it_is : (x : Asked) → request_of s req ≡ Some x → x ≡ q
-  it_is x at = let both : Some x ≡ Some q = sym at ∙ there in cc
 
   -- ---- a request begins
 
@@ -47,11 +43,8 @@ module _ (run : Option ReqId) (loads : List ReqId) (hand : List Made) (s : Seen)
     begun_ended =
         count_same has_ended (on_request req begin s.requests) req (request_begun s) (λ x at. refl) ∙ count_same has_ended s.requests req begin (λ x at. refl)
 
-    begun_last : count_of has_spent begun ≡ count_of has_spent (on_request req begin s.requests)
-    begun_last = count_same has_spent (on_request req begin s.requests) req (request_begun s) (λ x at. refl)
-
-    begins_going : (run2 : Option ReqId) (now : List ReqId) (left : List Made) → (then_ (rows.Started req goal)).states ≤ 1 + count_of has_spent begun → AreHeldUp run2 (then_ (rows.Started req goal)) → IsTab run2 now left (then_ (rows.Started req goal)) → AreLasting (then_ (rows.Started req goal)) → IsGoing run2 now left (then_ (rows.Started req goal))
-    begins_going run2 now left few held tab lasting =
+    begins_going : (run2 : Option ReqId) (now : List ReqId) (left : List Made) → AreHeldUp run2 (then_ (rows.Started req goal)) → IsTab run2 now left (then_ (rows.Started req goal)) → AreLasting (then_ (rows.Started req goal)) → IsGoing run2 now left (then_ (rows.Started req goal))
+    begins_going run2 now left held tab lasting =
         let long : length begun ≡ length s.requests = begun_long in
         let same : count_of has_ended begun ≡ count_of has_ended s.requests = begun_ended in
         let fewer : s.entries ≤ 1 + count_of has_ended s.requests = going.counted.entries in
@@ -59,42 +52,21 @@ module _ (run : Option ReqId) (loads : List ReqId) (hand : List Made) (s : Seen)
         record {
           tab = tab;
           lasting = lasting;
-          counted = record { states = few; entries = omega (arith, fewer, same); epochs = going.counted.epochs };
+          counted = record { entries = omega (arith, fewer, same); epochs = going.counted.epochs };
           steps = steps_still s (then_ (rows.Started req goal)) going.steps refl (omega (arith, same));
           held = held;
           room = omega (arith, long, room);
         }
 
     -- a traversal, while nothing is held back
-    pub begun_going : is_load q.what ≡ false → s.parked ≡ [] → (now : List ReqId) (left : List Made) → IsTab (Some req) now left (then_ (rows.Started req goal)) → AreLasting (then_ (rows.Started req goal)) → IsGoing (Some req) now left (then_ (rows.Started req goal))
-    begun_going none free now left tab lasting =
-        begins_going (Some req) now left few (none_held_up (Some req) (then_ (rows.Started req goal)) free) tab lasting
-      where
-        alike : (x : Asked) → request_of s req ≡ Some x → has_spent (begin x) ≡ has_spent x
-        alike x at = let is : is_load x.what ≡ false = ap (λ (y : Asked). is_load y.what) (it_is x at) ∙ none in rw is refl
-
-        as_before : count_of has_spent begun ≡ count_of has_spent s.requests
-        as_before = begun_last ∙ count_same has_spent s.requests req begin alike
-
-        same_states : (then_ (rows.Started req goal)).states ≡ s.states
-        same_states = rw there (rw none refl)
-
-        few : (then_ (rows.Started req goal)).states ≤ 1 + count_of has_spent begun
-        few = (let low : s.states ≤ 1 + count_of has_spent s.requests = going.counted.states in let same : count_of has_spent begun ≡ count_of has_spent s.requests = as_before in let at : (then_ (rows.Started req goal)).states ≡ s.states = same_states in omega (arith, low, same, at))
+    pub begun_going : s.parked ≡ [] → (now : List ReqId) (left : List Made) → IsTab (Some req) now left (then_ (rows.Started req goal)) → AreLasting (then_ (rows.Started req goal)) → IsGoing (Some req) now left (then_ (rows.Started req goal))
+    begun_going free now left tab lasting =
+        begins_going (Some req) now left (none_held_up (Some req) (then_ (rows.Started req goal)) free) tab lasting
 
     -- a load
-    pub load_begun_going : is_load q.what ≡ true → q.is_started ≡ false → q.ending ≡ None → (now : List ReqId) (left : List Made) → IsTab run now left (then_ (rows.Started req goal)) → AreLasting (then_ (rows.Started req goal)) → IsGoing run now left (then_ (rows.Started req goal))
-    load_begun_going loads_it unstarted unended now left tab lasting =
-        begins_going run now left few (begun_held run s event actor going.held req goal) tab lasting
-      where
-        one_more : count_of has_spent begun ≡ count_of has_spent s.requests + 1
-        one_more = begun_last ∙ count_more has_spent s.requests req begin q there (rw (unended, unstarted, loads_it) refl) (rw (unended, loads_it) refl)
-
-        next_state : (then_ (rows.Started req goal)).states ≡ s.states + 1
-        next_state = rw there (rw loads_it refl)
-
-        few : (then_ (rows.Started req goal)).states ≤ 1 + count_of has_spent begun
-        few = (let low : s.states ≤ 1 + count_of has_spent s.requests = going.counted.states in let more : count_of has_spent begun ≡ count_of has_spent s.requests + 1 = one_more in let at : (then_ (rows.Started req goal)).states ≡ s.states + 1 = next_state in omega (arith, low, more, at))
+    pub load_begun_going : (now : List ReqId) (left : List Made) → IsTab run now left (then_ (rows.Started req goal)) → AreLasting (then_ (rows.Started req goal)) → IsGoing run now left (then_ (rows.Started req goal))
+    load_begun_going now left tab lasting =
+        begins_going run now left (begun_held run s event actor going.held req goal) tab lasting
 
   -- ---- a change is applied
 
@@ -105,38 +77,20 @@ module _ (run : Option ReqId) (loads : List ReqId) (hand : List Made) (s : Seen)
     ended_more : (change : Change) → count_of has_ended (changed change).requests ≡ count_of has_ended s.requests + 1
     ended_more change = applied_more s event actor req change has_ended q (λ x. refl) (λ x. refl) there (rw unended refl) refl
 
-    -- one more is spent, unless it was
-    spent_more : (change : Change) → has_spent q ≡ false → count_of has_spent (changed change).requests ≡ count_of has_spent s.requests + 1
-    spent_more change unspent = applied_more s event actor req change has_spent q (λ x. refl) (λ x. refl) there unspent refl
-
-    spent_same : (change : Change) → has_spent q ≡ true → count_of has_spent (changed change).requests ≡ count_of has_spent s.requests
-    spent_same change is =
-        applied_same s event actor req change has_spent (λ x. refl) (λ x. refl) (λ x at. sym (ap has_spent (it_is x at) ∙ is))
-
-    -- what a change may number: a document state more only for a request that wasn't spent, an entry more
-    pub record Numbers (change : Change) : Type 0 where
-      pub states : (changed change).states ≤ s.states + 1
-      pub entries : (changed change).entries ≤ s.entries + 1
-      pub spent : has_spent q ≡ true → (changed change).states ≡ s.states
-
-    counted : (change : Change) → IsNoReload change → Numbers change → AreCounted (changed change)
-    counted change no_reload numbers =
+    -- an entry more may be numbered
+    counted : (change : Change) → IsNoReload change → (changed change).entries ≤ s.entries + 1 → AreCounted (changed change)
+    counted change no_reload up =
         record {
-          states = by_spent (has_spent q) refl;
-          entries = (let low : s.entries ≤ 1 + count_of has_ended s.requests = going.counted.entries in let more : count_of has_ended (changed change).requests ≡ count_of has_ended s.requests + 1 = ended_more change in let up : (changed change).entries ≤ s.entries + 1 = numbers.entries in omega (arith, low, more, up));
+          entries = (let low : s.entries ≤ 1 + count_of has_ended s.requests = going.counted.entries in let more : count_of has_ended (changed change).requests ≡ count_of has_ended s.requests + 1 = ended_more change in omega (arith, low, more, up));
           epochs = applied_up (s.jobs + 1) s req change no_reload going.counted.epochs;
         }
-      where
-        by_spent : (b : Bool) → has_spent q ≡ b → (changed change).states ≤ 1 + count_of has_spent (changed change).requests
-        by_spent true is = (let low : s.states ≤ 1 + count_of has_spent s.requests = going.counted.states in let same : count_of has_spent (changed change).requests ≡ count_of has_spent s.requests = spent_same change is in let at : (changed change).states ≡ s.states = numbers.spent is in omega (arith, low, same, at))
-        by_spent false is = (let low : s.states ≤ 1 + count_of has_spent s.requests = going.counted.states in let more : count_of has_spent (changed change).requests ≡ count_of has_spent s.requests + 1 = spent_more change is in let up : (changed change).states ≤ s.states + 1 = numbers.states in omega (arith, low, more, up))
 
-    applies_going : (change : Change) (run2 : Option ReqId) (now : List ReqId) (left : List Made) → IsNoReload change → Numbers change → AreSteps (changed change) → AreHeldUp run2 (changed change) → IsTab run2 now left (changed change) → AreLasting (changed change) → IsGoing run2 now left (changed change)
-    applies_going change run2 now left no_reload numbers steps held tab lasting =
+    applies_going : (change : Change) (run2 : Option ReqId) (now : List ReqId) (left : List Made) → IsNoReload change → (changed change).entries ≤ s.entries + 1 → AreSteps (changed change) → AreHeldUp run2 (changed change) → IsTab run2 now left (changed change) → AreLasting (changed change) → IsGoing run2 now left (changed change)
+    applies_going change run2 now left no_reload up steps held tab lasting =
         record {
           tab = tab;
           lasting = lasting;
-          counted = counted change no_reload numbers;
+          counted = counted change no_reload up;
           steps = steps;
           held = held;
           room = (let long : length (changed change).requests ≡ length s.requests = applied_long s event actor req change in let room : length s.requests + 2 < 4294967296 = going.room in omega (arith, long, room));
@@ -147,22 +101,21 @@ module _ (run : Option ReqId) (loads : List ReqId) (hand : List Made) (s : Seen)
 
     pub pushed_going : (nav : NavId) (entry : EntryId) (state : StateId) (address : List ℕ) (memo : Option (List ℕ)) (now : List ReqId) (left : List Made) → IsTab run now left (changed (changes.Push nav entry state address memo)) → AreLasting (changed (changes.Push nav entry state address memo)) → IsGoing run now left (changed (changes.Push nav entry state address memo))
     pushed_going nav entry state address memo now left =
-        applies_going (changes.Push nav entry state address memo) run now left tt (record { states = omega arith; entries = by_maker entry.maker; spent = λ is. refl }) (pushed_steps s event actor going.steps req q there unended nav entry state address memo) (applied_held run s event actor going.held req (changes.Push nav entry state address memo))
+        applies_going (changes.Push nav entry state address memo) run now left tt (by_maker entry.maker) (pushed_steps s event actor going.steps req q there unended nav entry state address memo) (applied_held run s event actor going.held req (changes.Push nav entry state address memo))
 
     pub replaced_going : (nav : NavId) (over entry : EntryId) (state : StateId) (address : List ℕ) (memo : Option (List ℕ)) (now : List ReqId) (left : List Made) → IsTab run now left (changed (changes.Replace nav over entry state address memo)) → AreLasting (changed (changes.Replace nav over entry state address memo)) → IsGoing run now left (changed (changes.Replace nav over entry state address memo))
     replaced_going nav over entry state address memo now left =
-        applies_going (changes.Replace nav over entry state address memo) run now left tt (record { states = omega arith; entries = by_maker entry.maker; spent = λ is. refl }) (replaced_steps s event actor going.steps req q there unended nav over entry state address memo) (applied_held run s event actor going.held req (changes.Replace nav over entry state address memo))
+        applies_going (changes.Replace nav over entry state address memo) run now left tt (by_maker entry.maker) (replaced_steps s event actor going.steps req q there unended nav over entry state address memo) (applied_held run s event actor going.held req (changes.Replace nav over entry state address memo))
 
-    -- of a request for which none was numbered yet
-    pub added_going : (owner : StateId) (nav : NavId) (entry : EntryId) (state : StateId) → has_state owner s.history.rows ≡ true → has_spent q ≡ false → (now : List ReqId) (left : List Made) → IsTab run now left (changed (changes.AddFrame owner nav entry state)) → AreLasting (changed (changes.AddFrame owner nav entry state)) → IsGoing run now left (changed (changes.AddFrame owner nav entry state))
-    added_going owner nav entry state owns unspent now left =
-        applies_going (changes.AddFrame owner nav entry state) run now left tt (record { states = omega arith; entries = omega arith; spent = λ is. (let never : true ≡ false = sym is ∙ unspent in absurd cc) }) (added_steps s event actor going.steps req q there unended owner nav entry state owns) (applied_held run s event actor going.held req (changes.AddFrame owner nav entry state))
+    pub added_going : (owner : StateId) (nav : NavId) (entry : EntryId) (state : StateId) → has_state owner s.history.rows ≡ true → (now : List ReqId) (left : List Made) → IsTab run now left (changed (changes.AddFrame owner nav entry state)) → AreLasting (changed (changes.AddFrame owner nav entry state)) → IsGoing run now left (changed (changes.AddFrame owner nav entry state))
+    added_going owner nav entry state owns now left =
+        applies_going (changes.AddFrame owner nav entry state) run now left tt (omega arith) (added_steps s event actor going.steps req q there unended owner nav entry state owns) (applied_held run s event actor going.held req (changes.AddFrame owner nav entry state))
 
     pub removed_going : (nav : NavId) (now : List ReqId) (left : List Made) → IsTab run now left (changed (changes.RemoveFrame nav)) → AreLasting (changed (changes.RemoveFrame nav)) → IsGoing run now left (changed (changes.RemoveFrame nav))
     removed_going nav now left =
-        applies_going (changes.RemoveFrame nav) run now left tt (record { states = omega arith; entries = omega arith; spent = λ is. refl }) (removed_steps s event actor going.steps req q there unended nav) (applied_held run s event actor going.held req (changes.RemoveFrame nav))
+        applies_going (changes.RemoveFrame nav) run now left tt (omega arith) (removed_steps s event actor going.steps req q there unended nav) (applied_held run s event actor going.held req (changes.RemoveFrame nav))
 
     -- the traversal that runs ends
     pub traversed_going : (goal : Step) (now : List ReqId) (left : List Made) → IsTab None now left (changed (changes.Traverse goal)) → AreLasting (changed (changes.Traverse goal)) → IsGoing None now left (changed (changes.Traverse goal))
     traversed_going goal now left =
-        applies_going (changes.Traverse goal) None now left tt (record { states = omega arith; entries = omega arith; spent = λ is. refl }) (traversed_steps s event actor going.steps req q there unended goal) tt
+        applies_going (changes.Traverse goal) None now left tt (omega arith) (traversed_steps s event actor going.steps req q there unended goal) tt

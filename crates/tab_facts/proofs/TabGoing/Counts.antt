@@ -108,7 +108,3 @@ module _ (s : Seen) (event : ℕ) (actor : Actor) (req : ReqId) (change : Change
   pub applied_more : (test : Asked → Bool) (q : Asked) → ((x : Asked) → test (record x { change = Some change }) ≡ test x) → ((x : Asked) → test (record x { took = entries_taken s.history change }) ≡ test x) → request_in s.requests req ≡ Some q → test q ≡ false → test (record q { ending = Some endings.Applied }) ≡ true → count_of test applied_to ≡ count_of test s.requests + 1
   applied_more test q changes_ takes there before then_ =
       same_last test changes_ takes ∙ count_more test s.requests req (λ (x : Asked). record x { ending = Some endings.Applied }) q there before then_
-
-  pub applied_same : (test : Asked → Bool) → ((x : Asked) → test (record x { change = Some change }) ≡ test x) → ((x : Asked) → test (record x { took = entries_taken s.history change }) ≡ test x) → ((q : Asked) → request_in s.requests req ≡ Some q → test (record q { ending = Some endings.Applied }) ≡ test q) → count_of test applied_to ≡ count_of test s.requests
-  applied_same test changes_ takes its =
-      same_last test changes_ takes ∙ count_same test s.requests req (λ (x : Asked). record x { ending = Some endings.Applied }) its

@@ -18,13 +18,13 @@ use Rattle.log_model.specs.declared.row_kind.Actor.{Actor}
 use Rattle.log_model.specs.declared.row_kind.RowKind.{RowKind}
 use Rattle.seen_facts.proofs.Request.Readers.{IsBlind}
 use Rattle.seen_facts.specs.Request.Whereabouts.{is_of_load}
-use Rattle.std.proofs.Common.{Bool, List, None, Option, Some, [], ap, arith, false, length, refl, subst, sym, true, ℕ, ◌+◌, ◌<◌, ◌||◌, ◌∙◌, ◌≡◌, ◌≤◌}
+use Rattle.std.proofs.Common.{Bool, List, None, Option, Some, [], ap, arith, length, refl, subst, sym, true, ℕ, ◌+◌, ◌<◌, ◌∙◌, ◌≡◌, ◌≤◌}
 use Rattle.std.specs.Option.{option_map_or}
 use Rattle.tab_facts.proofs.TabGoing.Counts.{as_many, count_more, count_same}
 use Rattle.tab_facts.proofs.TabGoing.Epochs.{AreUpTo, EpochFits, later_up, sent_up}
 use Rattle.tab_facts.proofs.TabGoing.HeldUp.{dropped_held, refused_held, sent_held}
 use Rattle.tab_facts.proofs.TabGoing.Steps.{steps_still}
-use Rattle.tab_facts.specs.TabGoing.Going.{AreHeldUp, IsGoing, count_of, has_ended, has_spent}
+use Rattle.tab_facts.specs.TabGoing.Going.{AreHeldUp, IsGoing, count_of, has_ended}
 use Rattle.tab_ids.specs.declared.ReqId.{ReqId}
 use Rattle.tab_facts.proofs.Last.Rows.{dropped_lasting}
 use Rattle.tab_facts.proofs.TabWhole.Refusing.{listed_load_dropped_tab}
@@ -68,9 +68,6 @@ module _ (test : Asked → Bool) (blind : IsBlind test) (s : Seen) (job : Job) w
 ended_blind : IsBlind has_ended
 ended_blind = record { moves = λ q activated moved. refl; asks = λ q asks. refl; fragments = λ q doc. refl; misses = λ q is. refl }
 
-spent_blind : IsBlind has_spent
-spent_blind = record { moves = λ q activated moved. refl; asks = λ q asks. refl; fragments = λ q doc. refl; misses = λ q is. refl }
-
 served_long : (s : Seen) (job : Job) (task : Task) (why : Why) (asked : List Asked) → length (on_served why (request_served s job task) asked) ≡ length asked
 served_long s job task (whys.Req req) asked = as_many asked req (request_served s job task)
 served_long s job task (whys.Death death) asked = refl
@@ -85,10 +82,6 @@ sent_long s job (tasks.Activate entry epoch length index memo address) asked = s
 sent_long s job tasks.Freeze asked = served_long s job tasks.Freeze job.why asked
 sent_long s job tasks.Discard asked = served_long s job tasks.Discard job.why asked
 sent_long s job (tasks.Ask slot cause) asked = served_long s job (tasks.Ask slot cause) job.why asked
-
--- a request that has ended was spent
-or_true : (a : Bool) → (true || a) ≡ true
-or_true a = refl
 
 module _ (run : Option ReqId) (loads : List ReqId) (hand : List Made) (s : Seen) (event : ℕ) (actor : Actor) (going : IsGoing run loads hand s) where
   abbrev then_ : RowKind → Seen
@@ -106,7 +99,6 @@ module _ (run : Option ReqId) (loads : List ReqId) (hand : List Made) (s : Seen)
           tab = tab;
           lasting = lasting;
           counted = record {
-            states = subst (λ (n : ℕ). s.states ≤ 1 + n) (sym (sent_count has_spent spent_blind s job job.task s.requests)) going.counted.states;
             entries = subst (λ (n : ℕ). s.entries ≤ 1 + n) (sym (sent_count has_ended ended_blind s job job.task s.requests)) going.counted.entries;
             epochs = subst (λ (n : ℕ). AreUpTo n sent.places) two (sent_up (s.jobs + 2) s job job.task fits (later_up (s.jobs + 1) (s.jobs + 2) s.places (omega arith) going.counted.epochs));
           };
@@ -124,26 +116,17 @@ module _ (run : Option ReqId) (loads : List ReqId) (hand : List Made) (s : Seen)
     end_more : (ending : Ending) → q.ending ≡ None → count_of has_ended (ended s.requests req ending) ≡ count_of has_ended s.requests + 1
     end_more ending unended = count_more has_ended s.requests req (λ (x : Asked). record x { ending = Some ending }) q there (rw unended refl) refl
 
-    spent_up : (ending : Ending) → q.ending ≡ None → (b : Bool) → has_spent q ≡ b → count_of has_spent s.requests ≤ count_of has_spent (ended s.requests req ending)
-    spent_up ending unended true is =
-        (let same : count_of has_spent (ended s.requests req ending) ≡ count_of has_spent s.requests = count_same has_spent s.requests req (λ (x : Asked). record x { ending = Some ending }) (λ x at. let both : Some x ≡ Some q = sym at ∙ there in let one : q ≡ x = cc in sym (ap has_spent (sym one) ∙ is)) in omega (arith, same))
-    spent_up ending unended false is =
-        (let more : count_of has_spent (ended s.requests req ending) ≡ count_of has_spent s.requests + 1 = count_more has_spent s.requests req (λ (x : Asked). record x { ending = Some ending }) q there is refl in omega (arith, more))
-
     module _ (unended : q.ending ≡ None) where
-      ends_going : (t : Seen) (now : List ReqId) (left : List Made) (ending : Ending) → t.requests ≡ ended s.requests req ending → t.history ≡ s.history → t.places ≡ s.places → t.jobs ≡ s.jobs → t.states ≡ s.states → t.entries ≡ s.entries → AreHeldUp run t → IsTab run now left t → AreLasting t → IsGoing run now left t
-      ends_going t now left ending requests_ history places jobs states entries held tab lasting =
+      ends_going : (t : Seen) (now : List ReqId) (left : List Made) (ending : Ending) → t.requests ≡ ended s.requests req ending → t.history ≡ s.history → t.places ≡ s.places → t.jobs ≡ s.jobs → t.entries ≡ s.entries → AreHeldUp run t → IsTab run now left t → AreLasting t → IsGoing run now left t
+      ends_going t now left ending requests_ history places jobs entries held tab lasting =
           let long : length (ended s.requests req ending) ≡ length s.requests = as_many s.requests req (λ (x : Asked). record x { ending = Some ending }) in
           let more : count_of has_ended (ended s.requests req ending) ≡ count_of has_ended s.requests + 1 = end_more ending unended in
-          let up : count_of has_spent s.requests ≤ count_of has_spent (ended s.requests req ending) = spent_up ending unended (has_spent q) refl in
-          let few : s.states ≤ 1 + count_of has_spent s.requests = going.counted.states in
           let fewer : s.entries ≤ 1 + count_of has_ended s.requests = going.counted.entries in
           let room : length s.requests + 2 < 4294967296 = going.room in
           record {
             tab = tab;
             lasting = lasting;
             counted = record {
-              states = subst (λ (l : List Asked). t.states ≤ 1 + count_of has_spent l) (sym requests_) (omega (arith, few, up, states));
               entries = subst (λ (l : List Asked). t.entries ≤ 1 + count_of has_ended l) (sym requests_) (omega (arith, fewer, more, entries));
               epochs = rw (places, jobs) going.counted.epochs;
             };
@@ -154,11 +137,11 @@ module _ (run : Option ReqId) (loads : List ReqId) (hand : List Made) (s : Seen)
 
       pub refused_going : (reason : Denial) (now : List ReqId) (left : List Made) → IsTab run now left (then_ (rows.Refused req reason)) → AreLasting (then_ (rows.Refused req reason)) → IsGoing run now left (then_ (rows.Refused req reason))
       refused_going reason now left tab lasting =
-          ends_going (then_ (rows.Refused req reason)) now left (endings.Refused reason) refl refl refl refl refl refl (refused_held run s event actor going.held req reason) tab lasting
+          ends_going (then_ (rows.Refused req reason)) now left (endings.Refused reason) refl refl refl refl refl (refused_held run s event actor going.held req reason) tab lasting
 
       pub dropped_going : (cause : Cause) (now : List ReqId) (left : List Made) → IsTab run now left (then_ (rows.Dropped req cause)) → AreLasting (then_ (rows.Dropped req cause)) → IsGoing run now left (then_ (rows.Dropped req cause))
       dropped_going cause now left tab lasting =
-          ends_going (then_ (rows.Dropped req cause)) now left (endings.Dropped cause) refl refl refl refl refl refl (dropped_held run s event actor going.held req cause) tab lasting
+          ends_going (then_ (rows.Dropped req cause)) now left (endings.Dropped cause) refl refl refl refl refl (dropped_held run s event actor going.held req cause) tab lasting
 
       -- a load that is dropped at hand, while the list of those at hand stays
       pub listed_dropped_going : is_load q.what ≡ true → has_req loads req ≡ true → (cause : Cause) → IsGoing run loads hand (then_ (rows.Dropped req cause))

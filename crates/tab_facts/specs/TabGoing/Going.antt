@@ -4,27 +4,21 @@ use Rattle.seen_facts.specs.Hang.Members.{Has}
 use Rattle.tab_facts.specs.Last.Lasting.{AreLasting}
 use Rattle.log_model.specs.Equal.{has_req}
 use Rattle.log_model.specs.History.{has_nav}
-use Rattle.log_model.specs.Places.{is_load}
 use Rattle.log_model.specs.Points.{nav_of_request}
 use Rattle.log_model.specs.Seen.{Asked, Place, Seen, place_of, request_of}
 use Rattle.log_model.specs.declared.made.Made.{Made}
 use Rattle.log_model.specs.declared.row.Row.{Row}
-use Rattle.std.specs.Prelude.{Bool, List, None, Option, Some, filter, is_some, length, true, ℕ, ◌+◌, ◌<◌, ◌&&◌, ◌||◌, ◌≡◌, ◌≤◌}
+use Rattle.std.specs.Prelude.{Bool, List, None, Option, Some, filter, length, true, ℕ, ◌+◌, ◌<◌, ◌≡◌, ◌≤◌}
 use Rattle.tab_ids.specs.declared.NavId.{NavId}
 use Rattle.tab_ids.specs.declared.ReqId.{ReqId}
 pub use Rattle.tab_facts.specs.TabWhole.Tab.{IsTab, has_ended}
-
--- it has ended, or is a load that has begun, for which a document state was numbered then
-abbrev pub has_spent : Asked → Bool
-has_spent q = is_some q.ending || (is_load q.what && q.is_started)
 
 -- how many requests are so
 abbrev pub count_of : (Asked → Bool) → List Asked → ℕ
 count_of test asked = length (filter test asked)
 
--- numbers were given one by one: a document state but the first came with a load that began or a request that ended, an entry of the coordinator's with a request that ended, an epoch but the first with an order
+-- numbers were given one by one: an entry of the coordinator's but the first came with a request that ended, an epoch but the first with an order
 pub record AreCounted (s : Seen) : Type 0 where
-  pub states : s.states ≤ 1 + count_of has_spent s.requests
   pub entries : s.entries ≤ 1 + count_of has_ended s.requests
   pub epochs : (nav : NavId) (place : Place) → place_of s nav ≡ Some place → place.epoch.0 ≤ s.jobs + 1
 

@@ -7,4 +7,4 @@ use Rattle.tab_doors.specs.Working.{IsAtWork}
 
 pub returns-clause-work : goal.returns-clause-work
 returns-clause-work g c =
-    subst (λ (l : List RowKind). IsAtWork g.e l c.args._tables.now) (sym (c.in_ok-push.ensures.ok ∙ ap (λ (l : List RowKind). l ++ rows.Refused c.args.req c.args.reason ∷ []) c.requires.0)) (refused_work _ _ _ _ c.requires.1.0 c.requires.1.1.0 c.requires.1.1.1)
+    subst (λ (l : List RowKind). IsAtWork g.e l c.args._tables.now) (sym (c.in_ok-push.ensures.ok ∙ ap (λ (l : List RowKind). l ++ rows.Refused c.args.req c.args.reason ∷ []) c.requires.0)) (refused_work _ _ _ _ c.requires.1.0 c.requires.1.1.0 c.requires.1.1.1.0 c.requires.1.1.1.1)

@@ -8,4 +8,4 @@ make_change-requires g c = (c.requires.0.holds.history, c.requires.1.1.1)
 
 pub returns-clause-work : goal.returns-clause-work
 returns-clause-work g c =
-    rw c.unmove_each.ensures (next_work _ _ _ _ c.in_ok-push.ensures.ok (end_work _ _ _ _ _ _ c.requires.0 c.requires.1.0 c.requires.1.1.0 refl c.in_ok-make_change.ensures.ok (record { making = refl; whose = refl; shown = refl; last = refl; documents = refl; sent = refl; loads = refl; kept = refl; checks = refl }) refl refl refl refl))
+    rw c.unmove_each.ensures (next_work _ _ _ _ c.in_ok-push.ensures.ok (end_work _ _ _ _ _ _ c.requires.0 c.requires.1.0 c.requires.1.1.0 refl c.in_ok-make_change.ensures.ok (record { making = refl; whose = refl; shown = refl; last = refl; documents = refl; sent = refl; loads = refl; kept = refl; checks = refl; asking = refl }) refl refl refl refl))

@@ -8,7 +8,7 @@ proc_there-proc-requires g c = has_proc _ _ _ _ _ c.requires.0 c.requires.1.1.1.
 
 pub returns-clause-work : goal.returns-clause-work
 returns-clause-work g c =
-    rw (c.sleep_each.ensures, c.is_for-moves.ensures) (next_for _ _ _ _ _ (order_there _ _ _ _ _ c.requires.0 c.requires.1.1.1.0.found _ _ _ _ _ c.proc_there-proc.ensures c.in_ok-push.ensures.ok c.in_ok-job.ensures.job) (freeze_work _ _ _ _ _ _ _ c.requires.0 c.requires.1.0 c.requires.1.1.0 c.requires.1.1.1.1.0 refl (record { making = refl; whose = refl; shown = refl; last = refl; history = refl; documents = refl; states = refl; entries = refl; sent = c.in_ok-job.ensures.sent; loads = refl; initial = refl; checks = refl }) refl refl refl))
+    rw (c.sleep_each.ensures, c.is_for-moves.ensures) (next_for _ _ _ _ _ (order_there _ _ _ _ _ c.requires.0 c.requires.1.1.1.0.found _ _ _ _ _ c.proc_there-proc.ensures c.in_ok-push.ensures.ok c.in_ok-job.ensures.job) (freeze_work _ _ _ _ _ _ _ c.requires.0 c.requires.1.0 c.requires.1.1.0 c.requires.1.1.1.1.0 refl (record { making = refl; whose = refl; shown = refl; last = refl; history = refl; documents = refl; states = refl; entries = refl; sent = c.in_ok-job.ensures.sent; loads = refl; initial = refl; checks = refl; asking = refl }) refl refl refl))
 
 pub returns-clause-out : goal.returns-clause-out
 returns-clause-out g c = order_there _ _ _ _ _ c.requires.0 c.requires.1.1.1.0.found _ _ _ _ _ c.proc_there-proc.ensures c.in_ok-push.ensures.ok c.in_ok-job.ensures.job

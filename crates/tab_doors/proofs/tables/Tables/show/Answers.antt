@@ -25,7 +25,7 @@ proc_there-proc-requires g c = has_proc _ _ _ _ _ c.requires.0 c.requires.1.1.0.
 
 pub returns-clause-work : goal.returns-clause-work
 returns-clause-work g c =
-    rw (c.set_moved.ensures, c.set_told.ensures, c.give.ensures.tree, c.is_some.ensures) (next_work _ _ _ _ (order_there _ _ _ _ _ c.requires.0 c.requires.1.1.0.goes.found _ _ _ _ _ c.proc_there-proc.ensures c.in_ok-push.ensures.ok c.in_ok-job.ensures.job) (show_work _ _ _ _ _ _ _ _ _ _ _ _ _ c.requires.0 c.requires.1.0 c.requires.1.1.0 c.requires.1.1.1.0 refl (record { making = refl; whose = refl; shown = c.in_ok-insert.ensures.entries ∙ ap (λ (n : JobId). insert_entry is_nav c.args.self.now.shown.entries c.args.nav n) (ap (λ (j : Job). j.nr) c.in_ok-job.ensures.job ∙ ap (λ (n : ℕ). let x : JobId = record { 0 = n } in x) c.requires.0.holds.sent); last = c.in_ok-insert-2.ensures.entries; history = refl; documents = refl; states = refl; entries = refl; sent = c.in_ok-job.ensures.sent; loads = refl; initial = refl; checks = refl }) refl refl _ c.requires.1.1.1.1.1.0 c.requires.1.1.1.1.1.1 c.take.ensures.rest))
+    rw (c.set_moved.ensures, c.set_told.ensures, c.give.ensures.tree, c.is_some.ensures) (next_work _ _ _ _ (order_there _ _ _ _ _ c.requires.0 c.requires.1.1.0.goes.found _ _ _ _ _ c.proc_there-proc.ensures c.in_ok-push.ensures.ok c.in_ok-job.ensures.job) (show_work _ _ _ _ _ _ _ _ _ _ _ _ _ c.requires.0 c.requires.1.0 c.requires.1.1.0 c.requires.1.1.1.0 refl (record { making = refl; whose = refl; shown = c.in_ok-insert.ensures.entries ∙ ap (λ (n : JobId). insert_entry is_nav c.args.self.now.shown.entries c.args.nav n) (ap (λ (j : Job). j.nr) c.in_ok-job.ensures.job ∙ ap (λ (n : ℕ). let x : JobId = record { 0 = n } in x) c.requires.0.holds.sent); last = c.in_ok-insert-2.ensures.entries; history = refl; documents = refl; states = refl; entries = refl; sent = c.in_ok-job.ensures.sent; loads = refl; initial = refl; checks = refl; asking = refl }) refl refl _ c.requires.1.1.1.1.1.0 c.requires.1.1.1.1.1.1 c.take.ensures.rest))
 
 pub returns-clause-out : goal.returns-clause-out
 returns-clause-out g c = order_there _ _ _ _ _ c.requires.0 c.requires.1.1.0.goes.found _ _ _ _ _ c.proc_there-proc.ensures c.in_ok-push.ensures.ok c.in_ok-job.ensures.job
