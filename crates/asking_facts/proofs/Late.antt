@@ -193,9 +193,12 @@ died_duly s event actor proc death first checking es docs has checked within tak
       prompted = λ req x at is. prompted req x at is;
       run = record {
         was = s;
+        all = es;
+        same = λ req. inl refl;
         held = tied_held s es has.tied;
         said = has.said;
         numbered = has.numbered;
+        prompted = has.prompted;
         checked = checked;
         nothing = λ req x at fresh settled un none. never (sym (ap (λ (o : Option Asked). holds (has_settled s) o) at ∙ settled) ∙ fresh);
         asks = reads plain_of;

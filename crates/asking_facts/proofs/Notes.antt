@@ -1,5 +1,5 @@
 -- Whichever document a table notes for a request wanted a prompt: as an event begins, as the table is told of a run or of an answer, and where a check begins or ends.
-use Rattle.std.proofs.Common.{◌≡◌, inl, inr, Bool, true, false, cond, not, ◌&&◌, ◌||◌, ◌==◌, List, [], ◌∷◌, map, Option, Some, None, refl, sym, ap, ◌∙◌, subst}
+use Rattle.std.proofs.Common.{◌≡◌, ◌⊎◌, inl, inr, Bool, true, false, cond, not, ◌&&◌, ◌||◌, ◌==◌, List, [], ◌∷◌, map, Option, Some, None, refl, sym, ap, ◌∙◌, subst}
 use Rattle.std.specs.Prelude.{if◌then◌else◌, fold, nat_lt, option_and_then, option_map}
 use Rattle.std.specs.Option.{option_map_or}
 use Rattle.tab_ids.specs.declared.DocId.{DocId}
@@ -24,7 +24,7 @@ use Rattle.check_facts.specs.Checking.{AreTiedAt, IsCheckTied, asked_of, is_chec
 use Rattle.check_facts.specs.Having.{HasChecks, IsHeld}
 use Rattle.check_facts.specs.Prompting.{prompt_of, todo_of}
 use Rattle.checking_facts.proofs.Grown.{req_same}
-use Rattle.checking_facts.specs.Prompts.{HasRun, Told}
+use Rattle.checking_facts.specs.Prompts.{HasGoneOn, HasRun, Told}
 use Rattle.asking_facts.proofs.Waiting.{asks_of}
 use Rattle.asking_facts.specs.Prompting.{AllWanted, NotesWanted, has_wanted}
 
@@ -183,7 +183,19 @@ told_notes_wanted start now told run notes req q at doc noted = by_check (check_
     by_check None e =
         let none : (let o : Option DocId = None in o) ≡ Some doc = sym (ap note_of (told_then ∙ ap (option_map (table.after_deaths told.run)) e)) ∙ noted in
         absurd cc
-    by_check (Some c) e = by_settled c e (is_settled c) refl (run.held req p.0 p.1)
+    by_check (Some c) e = by_same (run.same req)
+      where
+        by_same : (check_of req told.checks ≡ check_of req run.all) ⊎ HasGoneOn now told.checks req → has_wanted doc q.asks ≡ true
+        by_same (inl same) = by_settled c e (is_settled c) refl (held_as same (run.held req p.0 p.1))
+          where
+            held_as : check_of req told.checks ≡ check_of req run.all → IsHeld run.was run.all req p.0 → IsHeld run.was told.checks req p.0
+            held_as same (inl tied) =
+                inl (subst (λ (o : Option OpenCheck). AreTiedAt run.was (Some p.0) o) (sym same) tied)
+            held_as same (inr settled) =
+                inr (settled.0, ap (λ (o : Option OpenCheck). option_map_or is_settled o false) same ∙ settled.1)
+        by_same (inr gone) =
+            let never : (let o : Option OpenCheck = Some c in o) ≡ None = sym e ∙ gone.none in
+            absurd cc
 
 -- ---- a check ends
 

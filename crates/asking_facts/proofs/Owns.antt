@@ -1,5 +1,5 @@
 -- An event's own row that is beside the checks: a request is accepted, a document evicted, or a report is delivered that tells no answer and no death. What is carried of prompts begins with it.
-use Rattle.std.proofs.Common.{◌≡◌, ℕ, ◌+◌, Bool, true, false, ◌&&◌, ◌||◌, ◌==◌, List, [], ◌∷◌, ◌++◌, length, slice_get, Option, Some, None, refl, sym, ap, ◌∙◌, subst}
+use Rattle.std.proofs.Common.{◌≡◌, inl, ℕ, ◌+◌, Bool, true, false, ◌&&◌, ◌||◌, ◌==◌, List, [], ◌∷◌, ◌++◌, length, slice_get, Option, Some, None, refl, sym, ap, ◌∙◌, subst}
 use Rattle.std.specs.Prelude.{option_map}
 use Rattle.std.specs.List.{list_all}
 use Rattle.tab_ids.specs.declared.DocId.{DocId}
@@ -73,9 +73,12 @@ from_tied checking s t es has checked within stays settled =
       prompted = has.prompted;
       run = record {
         was = t;
+        all = es;
+        same = λ req. inl refl;
         held = tied_held t es has.tied;
         said = has.said;
         numbered = has.numbered;
+        prompted = has.prompted;
         checked = checked;
         nothing = λ req q at fresh is un none. never (sym (settled req q at is) ∙ fresh);
         asks = λ r. refl;

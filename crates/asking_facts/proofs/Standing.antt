@@ -1,6 +1,7 @@
 -- An event is cut behind rows of its checks: what stays of that its rows so far pass, and of what is carried of checks and prompts.
-use Rattle.std.proofs.Common.{◌≡◌, ◌+◌, Bool, true, false, ◌&&◌, ◌||◌, not, ◌==◌, List, [], ◌∷◌, ◌++◌, map, Option, Some, refl, sym, ap, ◌∙◌, subst}
+use Rattle.std.proofs.Common.{◌≡◌, ◌+◌, Bool, true, false, ◌&&◌, ◌||◌, not, ◌==◌, List, [], ◌∷◌, ◌++◌, map, Option, None, Some, refl, sym, ap, ◌∙◌, subst}
 use Rattle.std.specs.List.{list_any}
+use Rattle.std.specs.Prelude.{option_and_then, option_map}
 use Rattle.tab_ids.specs.declared.DocId.{DocId}
 use Rattle.tab_ids.specs.declared.ReqId.{ReqId}
 use Rattle.tab_ids.specs.declared.Step.{Step}
@@ -11,22 +12,27 @@ use Rattle.log_model.specs.declared.row_kind.LogRow.{LogRow}
 use Rattle.log_model.specs.declared.row_kind.RowKind.{RowKind}
 use Rattle.log_model.specs.declared.row_kind.RowKind.TheVariants as rows
 use Rattle.log_model.specs.After.{after}
+use Rattle.log_model.specs.Checks.{due_prompt}
 use Rattle.log_model.specs.Orders.{Question}
 use Rattle.log_model.specs.Places.{has_passed, is_traversal}
 use Rattle.log_model.specs.Seen.{Asked, Seen, request_of}
-use Rattle.unload_check.specs.Checks.{OpenCheck, after_all_deaths, ended}
+use Rattle.unload_check.proofs.Stays.{others_ended}
+use Rattle.unload_check.specs.Checks.{OpenCheck, after_all_deaths, ended, outcome_of}
 use Rattle.seen_laws.proofs.Cuts.{log_cut}
 use Rattle.seen_laws.proofs.InEvents.{IsQuiet, log_more}
-use Rattle.seen_laws.specs.InEvent.{InEvent, begins, cut, here_of, log_of, row_of, wanting}
+use Rattle.seen_laws.specs.InEvent.{InEvent, begins, cut, here_of, log_of, row_of, running, wanting}
 use Rattle.seen_laws.specs.Blocks.{EachPass}
 use Rattle.seen_laws.specs.Owing.{Pays}
 use Rattle.seen_laws.specs.Sending.{leads}
 use Rattle.row_facts.proofs.FrameRows.LawfulLaws.{AsksOf}
 use Rattle.row_facts.specs.FrameRows.Lawful.{KeepsHeld}
+use Rattle.seen_facts.proofs.Coord.Held.{fun_ext}
 use Rattle.seen_facts.proofs.Request.Readers.{on_read}
-use Rattle.check_facts.specs.Prompting.{Agrees, IsAskDue, todo_of}
+use Rattle.check_facts.proofs.Tables.{check_ended, todo_none}
+use Rattle.check_facts.specs.Prompting.{Agrees, IsAskDue, prompt_of, todo_of}
 use Rattle.unasked_dues.specs.Checking.{NonePasses}
 use Rattle.checking_facts.proofs.Entering.{passed_checks}
+use Rattle.checking_facts.proofs.Gone.{gone_duly}
 use Rattle.checking_facts.proofs.Grown.{req_same}
 use Rattle.checking_facts.proofs.Nobody.{pass_cut, pass_wanting}
 use Rattle.checking_facts.proofs.Rows.{row_checks}
@@ -82,11 +88,11 @@ pub stands_same : (Rest : List LogRow → Type 0) (but : ReqId → Bool) (e : In
 stands_same Rest but e out told due stands =
     stands_cut e out e.checking due Rest but told stands.pass stands.asked stands.checks stands.none stands.notes
 
--- whatever is wanted of the rows behind the cut
-pub stands_wanting : (Rest : List LogRow → Type 0) (but : ReqId → Bool) (e : InEvent) (out : List RowKind) (told : Told) (wants : List LogRow → Bool) → StandsAsked Rest but e out told → StandsAsked Rest but (wanting e wants) out told
-stands_wanting Rest but e out told wants stands =
+-- whatever is wanted of the rows behind the cut, and whichever run lasts there
+pub stands_wanting : (Rest : List LogRow → Type 0) (but : ReqId → Bool) (e : InEvent) (out : List RowKind) (told : Told) (wants : List LogRow → Bool) (ran : List DocId) → StandsAsked Rest but e out told → StandsAsked Rest but (running (wanting e wants) ran) out told
+stands_wanting Rest but e out told wants ran stands =
     record {
-      pass = pass_wanting Rest e (todo_of told.checks) out wants stands.pass;
+      pass = pass_wanting Rest e (todo_of told.checks) out wants ran stands.pass;
       asked = stands.asked;
       checks = stands.checks;
       none = stands.none;
@@ -214,6 +220,23 @@ module _ (Rest : List LogRow → Type 0) (but left : ReqId → Bool) (e : InEven
         none : NonePassesBut e.checking left then_log
         none =
             but_back e.checking but left then_log req leaves (prompt_none e (but_for req e.checking but) now req doc q at ready.unanswered (but_one e.checking but now req stands.none))
+
+-- it passes while a run lasts of which the table wasn't told, and no prompt is due: its check ends, and it is in its check no more
+module _ (Rest : List LogRow → Type 0) (but left : ReqId → Bool) (e : InEvent) (out : List RowKind) (told : Told) (stands : StandsAsked Rest but e out told) (req : ReqId) (leaves : LeavesOut req but left) where
+  pub gone_stands : (passed : ReqId → Bool) (due : Seen → Bool) → SameBut req e.checking passed → passed req ≡ false → ((q : Asked) → request_of (log_of e out) req ≡ Some q → has_passed (log_of e out) q ≡ true) → ((q : Asked) → request_of (log_of e out) req ≡ Some q → due_prompt (log_of e out) q ≡ None) → todo_of told.checks req ≡ None → StandsAsked Rest left (cut e out passed due) [] (record told { checks = ended req told.checks })
+  gone_stands passed due same out_ has undue unnoted =
+      stands_cut e out passed due Rest left (record told { checks = ended req told.checks }) (subst (λ (todo : ReqId → Option DocId). PassIf Rest e todo out) (fun_ext notes_same) stands.pass) (gone_duly e.checking passed e.start (log_of e out) told stands.asked req same has undue) (passed_checks e.checking passed (log_of e out) req same out_ has stands.checks) (left_passed e.checking passed but left (log_of e out) req same out_ leaves stands.none) (ended_notes (log_of e out) told.checks req stands.notes)
+    where
+      -- nothing was noted for it
+      notes_same : (r : ReqId) → todo_of told.checks r ≡ todo_of (ended req told.checks) r
+      notes_same r = by_number (r.0 == req.0) refl
+        where
+          by_number : (b : Bool) → (r.0 == req.0) ≡ b → todo_of told.checks r ≡ todo_of (ended req told.checks) r
+          by_number true is =
+              let it : r ≡ req = req_same r req is in
+              ap (todo_of told.checks) it ∙ unnoted ∙ sym (ap (todo_of (ended req told.checks)) it ∙ todo_none req (ended req told.checks) (check_ended req told.checks))
+          by_number false apart =
+              ap (λ (o : Option OpenCheck). option_and_then prompt_of (option_map outcome_of o)) (sym (others_ended req told.checks r apart))
 
 -- ---- a request begins and asks: it is in its check
 

@@ -60,7 +60,7 @@ begins e es uncut has keeps drops passes =
 
 module _ (header : Header) (s : Seen) (event : ℕ) (actor : Actor) (in_check : ReqId → Bool) (proc : ProcId) (job : Job) (verdict : Verdict) (made : Option Made) (first : slice_get (desk_of s proc).reports 0 ≡ Some (reports.Done job (outcomes.Asked verdict) made)) (r : ReqId) (why : job.why ≡ whys.Req r) (es : List (ReqId × OpenCheck)) (has : HasChecks s es) (q : Asked) (found : request_of s r ≡ Some q) (checking : is_checking s q ≡ true) (open_ : all_asked s q ≡ false) (one : AreOneEach job.nr job.doc q.asks) (says : AnswerIs job.nr verdict q.asks) where
   abbrev pub e : InEvent
-  e = record { header = header; start = s; event = event; actor = actor; own = rows.Delivered proc; before = []; checking = in_check; due = λ end. true; wants = λ behind. true }
+  e = record { header = header; start = s; event = event; actor = actor; own = rows.Delivered proc; before = []; ran = []; checking = in_check; due = λ end. true; wants = λ behind. true }
 
   -- the log and the table once both have the answer, and the request then
   abbrev pub next : Seen

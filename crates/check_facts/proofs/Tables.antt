@@ -11,6 +11,7 @@ use Rattle.log_model.specs.Seen.{Seen, Asked, Asking}
 use Rattle.log_model.specs.Places.{all_asked, is_gone, is_settled_asking}
 use Rattle.log_model.specs.Checks.{due_prompt}
 use Rattle.unload_check.specs.declared.check.Check.TheVariants as checks
+pub use Rattle.unload_check.proofs.Stays.{check_dead}
 use Rattle.unload_check.specs.Checks as table
 use Rattle.unload_check.specs.Checks.{OpenCheck, begun, changed, check_of, ended, is_req, outcome_at, outcome_of}
 use Rattle.check_facts.specs.Checking.{AreTiedAt, IsCheckTied, is_said, open_check}
@@ -37,14 +38,6 @@ check_changed req f (e ∷ es) = by_test (is_req req e.0) refl (check_changed re
     by_test : (b : Bool) → is_req req e.0 ≡ b → check_of req (changed req f es) ≡ option_map f (check_of req es) → check_of req (cond b ((e.0, f e.1) ∷ es) (e ∷ changed req f es)) ≡ option_map f (cond b (Some e.1) (check_of req es))
     by_test true is more = rw is refl
     by_test false is more = rw is more
-
-pub check_dead : (req : ReqId) (docs : List DocId) (es : List (ReqId × OpenCheck)) → check_of req (table.after_all_deaths docs es) ≡ option_map (table.after_deaths docs) (check_of req es)
-check_dead req docs [] = refl
-check_dead req docs (e ∷ es) = by_test (is_req req e.0) (check_dead req docs es)
-  where
-    by_test : (b : Bool) → check_of req (table.after_all_deaths docs es) ≡ option_map (table.after_deaths docs) (check_of req es) → cond b (Some (table.after_deaths docs e.1)) (check_of req (table.after_all_deaths docs es)) ≡ option_map (table.after_deaths docs) (cond b (Some e.1) (check_of req es))
-    by_test true more = refl
-    by_test false more = more
 
 pub check_ended : (req : ReqId) (es : List (ReqId × OpenCheck)) → check_of req (ended req es) ≡ None
 check_ended req [] = refl

@@ -15,3 +15,4 @@ pub mod Tellings
 pub mod Besides
 pub mod Steps
 pub mod Nobody
+pub mod Gone

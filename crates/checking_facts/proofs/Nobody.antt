@@ -15,7 +15,7 @@ use Rattle.row_facts.proofs.FrameRows.Cut.{rest_cut, rest_wanting, same_rows}
 use Rattle.seen_laws.proofs.Cuts.{log_cut}
 use Rattle.seen_laws.proofs.InEvents.{pays_end, taken_end}
 use Rattle.seen_laws.specs.Blocks.{EachPass}
-use Rattle.seen_laws.specs.InEvent.{InEvent, IsPaid, IsTakenIn, cut, later_of, log_of, now_of, rows_of, start_of, wanting}
+use Rattle.seen_laws.specs.InEvent.{InEvent, IsPaid, IsTakenIn, cut, later_of, log_of, now_of, rows_of, running, start_of, wanting}
 use Rattle.seen_laws.specs.Unasked.{unasked, unasked_request}
 use Rattle.unasked.proofs.Readings.{request_read}
 use Rattle.check_facts.proofs.Agreeing.{agree_none}
@@ -77,9 +77,12 @@ module _ (checking : ReqId → Bool) (start now : Seen) (checks : List (ReqId ×
         prompted = λ req q found is. never (sym (ap (λ (o : Option DocId). is_some o) (nobody req q found).1) ∙ is);
         run = record {
           was = now;
+          all = checks;
+          same = λ req. inl refl;
           held = λ req q found. inl (subst (λ (o : Option OpenCheck). AreTiedAt now (Some q) o) (sym (none req)) (unchecked q (passes req q found (off req))));
           said = λ req q found. rw ((nobody req q found).0) refl;
           numbered = numbered;
+          prompted = λ req q found is. never (sym (ap (λ (o : Option DocId). is_some o) (nobody req q found).1) ∙ is);
           checked = λ req q found open_ un. never (sym open_ ∙ (rw ((nobody req q found).0) refl));
           nothing = λ req q found fresh settled un noted. never (sym (unsettled now q (nobody req q found).0) ∙ settled);
           asks = λ r. refl;
@@ -132,12 +135,12 @@ pass_cut Rest e todo out checking due pass later rest =
     ))
 
 -- and whatever is wanted of the rows behind a cut
-pub pass_wanting : (Rest : List LogRow → Type 0) (e : InEvent) (todo : ReqId → Option DocId) (out : List RowKind) (wants : List LogRow → Bool) → PassIf Rest e todo out → PassIf Rest (wanting e wants) todo out
+pub pass_wanting : (Rest : List LogRow → Type 0) (e : InEvent) (todo : ReqId → Option DocId) (out : List RowKind) (wants : List LogRow → Bool) (ran : List DocId) → PassIf Rest e todo out → PassIf Rest (running (wanting e wants) ran) todo out
 unfolding PassIf
-pass_wanting Rest e todo out wants pass later rest =
+pass_wanting Rest e todo out wants ran pass later rest =
     pass later (
       record {
-        rest = rest_wanting e wants out later rest.0.rest;
+        rest = rest_wanting e wants ran out later rest.0.rest;
         prompts = rest.0.prompts;
         agrees = rest.0.agrees;
       },
@@ -173,9 +176,9 @@ told_all req told [] is = is
 told_all req told (kind ∷ out) is = told_all req (tell_row told kind) out (told_one req told kind is)
 
 -- it has none once it was told of rows
-pub none_told : (checks : List (ReqId × OpenCheck)) (out : List RowKind) → NoneChecked checks → NoneChecked (told_by checks out).checks
-none_told checks out none req = told_all req (record { checks = checks; run = [] }) out (none req)
+pub none_told : (ran : List DocId) (checks : List (ReqId × OpenCheck)) (out : List RowKind) → NoneChecked checks → NoneChecked (told_by ran checks out).checks
+none_told ran checks out none req = told_all req (record { checks = checks; run = ran }) out (none req)
 
 -- where it has none once it was told of the rows, it had none before
-pub none_before : (checks : List (ReqId × OpenCheck)) (out : List RowKind) → NoneChecked (told_by checks out).checks → NoneChecked checks
-none_before checks out none req = all_none req (record { checks = checks; run = [] }) out (none req)
+pub none_before : (ran : List DocId) (checks : List (ReqId × OpenCheck)) (out : List RowKind) → NoneChecked (told_by ran checks out).checks → NoneChecked checks
+none_before ran checks out none req = all_none req (record { checks = checks; run = ran }) out (none req)

@@ -1,6 +1,6 @@
 -- Over a row beside the checks what is carried of them goes on to hold; and the rows so far go on to pass, if the prompts that are due come.
-use Rattle.std.proofs.Common.{◌≡◌, inl, inr, ℕ, Bool, true, false, ◌&&◌, ◌||◌, ◌++◌, List, [], ◌∷◌, Option, Some, None, refl, sym, ap, ◌∙◌, subst}
-use Rattle.std.specs.Prelude.{option_map}
+use Rattle.std.proofs.Common.{◌≡◌, ◌⊎◌, inl, inr, ℕ, Bool, true, false, ◌&&◌, ◌||◌, ◌++◌, List, [], ◌∷◌, Option, Some, None, refl, sym, ap, ◌∙◌, subst}
+use Rattle.std.specs.Prelude.{cond, fold, is_none, not, option_and_then, option_map}
 use Rattle.std.specs.List.{list_all, list_any}
 use Rattle.std.proofs.lemmas.Bool.{and_parts}
 use Rattle.tab_ids.specs.declared.DocId.{DocId}
@@ -13,12 +13,12 @@ use Rattle.log_model.specs.declared.row_kind.LogRow.{LogRow}
 use Rattle.log_model.specs.declared.row_kind.RowKind.{RowKind}
 use Rattle.log_model.specs.declared.row_kind.RowKind.TheVariants as rows
 use Rattle.log_model.specs.After.{after}
-use Rattle.log_model.specs.Checks.{is_checked, is_of_run, prompts_duly}
+use Rattle.log_model.specs.Checks.{due_prompt, is_checked, is_of_run, lower_doc, prompting, prompts_duly}
 use Rattle.log_model.specs.Equal.{holds}
 use Rattle.log_model.specs.Outcomes.{is_drop}
-use Rattle.log_model.specs.Places.{all_asked, has_passed, is_gone, is_under_way, may_leave}
-use Rattle.log_model.specs.Seen.{Asked, Asking, Document, Seen, document_of}
-use Rattle.unload_check.specs.Checks.{OpenCheck, after_all_deaths, after_deaths, check_of, is_doc}
+use Rattle.log_model.specs.Places.{all_asked, has_passed, is_gone, is_settled_asking, is_under_way, may_leave}
+use Rattle.log_model.specs.Seen.{Asked, Asking, Document, Seen, document_of, request_of}
+use Rattle.unload_check.specs.Checks.{OpenCheck, after_all_deaths, after_deaths, check_of, is_doc, outcome_of}
 use Rattle.row_facts.specs.FrameRows.Lawful.{KeepsHeld}
 use Rattle.seen_laws.proofs.InEvents.{IsQuiet, log_more, pass_more}
 use Rattle.seen_laws.specs.Blocks.{EachPass, point_at}
@@ -37,18 +37,18 @@ use Rattle.check_facts.proofs.Keeping.{sent_reads}
 use Rattle.check_facts.proofs.Notings.{held_unnoted}
 use Rattle.check_facts.proofs.Promptings.{come_before, duly, keeps_settled, none_front, stay_settled}
 use Rattle.row_facts.proofs.FrameRows.LawfulLaws.{AsksOf, rest_more}
-use Rattle.check_facts.proofs.Rows.{Plain, plain_of, row_of_kind, sent_drops, sent_keeps}
-use Rattle.check_facts.proofs.Runs.{come_aside, come_more}
+use Rattle.check_facts.proofs.Rows.{Plain, plain_of, row_of_kind, sent_drops, sent_keeps, settled_more}
+use Rattle.check_facts.proofs.Runs.{come_aside, come_more, never_due}
 use Rattle.check_facts.proofs.Tables.{check_dead, todo_none}
 use Rattle.check_facts.proofs.Ties.{all_same, tied_same}
-use Rattle.check_facts.specs.Checking.{AreSaid, AreTiedAt, GoWith, checked_of, is_checking, is_said}
+use Rattle.check_facts.specs.Checking.{AreSaid, AreTiedAt, Checked, GoWith, checked_of, is_checking, is_said}
 use Rattle.check_facts.specs.Having.{AreHeld, IsHeld, OpenChecked}
-use Rattle.check_facts.specs.Prompting.{DropsNone, HaveNumbers, IsAside, IsDiscarding, KeepsQuestions, NothingElseDue, OpenUnnoted, PromptedSettled, PromptsCome, none_ran, todo_of}
+use Rattle.check_facts.specs.Prompting.{DropsNone, HaveNumbers, IsAside, IsDiscarding, KeepsQuestions, NothingElseDue, OpenUnnoted, PromptedSettled, PromptsCome, none_ran, prompt_of, todo_of}
 use Rattle.check_facts.specs.Rows.{IsNoQuestion, IsOfCoord}
 use Rattle.unasked_dues.specs.Checking.{AllOthersPass}
 use Rattle.checking_facts.proofs.Besides.{beside_aside, beside_drops, beside_gone, beside_plain, beside_reads, then_}
 use Rattle.checking_facts.proofs.Tellings.{runs_now, told_agrees, told_checked, told_due, told_held, told_notes, told_numbers, told_said}
-use Rattle.checking_facts.specs.Prompts.{AreAskedDuly, GoesBeside, PassIf, PromptsFor, PromptsOf, SendsBeside, Told, discarded_by, tell_for, tell_row}
+use Rattle.checking_facts.specs.Prompts.{AreAskedDuly, GoesBeside, HasGoneOn, PassIf, PromptsFor, PromptsOf, SendsBeside, Told, discarded_by, tell_for, tell_row}
 
 some_same : {A : Type 0} {a b : A} → (let o : Option A = Some a in o) ≡ Some b → a ≡ b
 some_same e = cc
@@ -101,6 +101,12 @@ is_discard (rows.Evicted state) doc is = cc
 -- where nothing changes
 pub same_drops : (s : Seen) → DropsNone s s
 same_drops s req q r at found = ap (λ (x : Asked). holds is_drop x.ending) (some_same (sym found ∙ at))
+
+-- the prompt that is due goes by the questions, and by whether the request was dropped
+due_as : (s : Seen) (p q : Asked) → plain_of p ≡ plain_of q → holds is_drop q.ending ≡ holds is_drop p.ending → due_prompt s q ≡ due_prompt s p
+due_as s p q same drop =
+    ap (λ (b : Bool). cond b None (fold lower_doc None (prompting s q))) drop
+    ∙ ap (λ (x : Plain). cond (holds is_drop p.ending) None (fold lower_doc None (prompting s (record q { asks = x.asks })))) (sym same)
 
 -- a run with one document more
 any_more : (x : DocId) (docs : List DocId) (doc : DocId) (gone : Bool) → (is_doc x doc || (list_any (is_doc x) docs || gone)) ≡ (list_any (is_doc x) (docs ++ doc ∷ []) || gone)
@@ -220,9 +226,12 @@ module _ (checking : ReqId → Bool) (start s : Seen) (event : ℕ) (actor : Act
             prompted = prompted_then;
             run = record {
               was = t;
+              all = checks_then;
+              same = λ req. inl refl;
               held = held_then;
               said = said_then;
               numbered = numbers_then;
+              prompted = prompted_then;
               checked = checked_then;
               nothing = due_then;
               asks = λ r. refl;
@@ -255,6 +264,25 @@ module _ (checking : ReqId → Bool) (start s : Seen) (event : ℕ) (actor : Act
     reads_on : SameReads checked_of s.requests t.requests
     reads_on = subst (λ (x : Seen). SameReads checked_of s.requests x.requests) (sym order_is) (sent_reads s job none_asks)
 
+    -- who has passed while the run lasts has still
+    still_same : (req : ReqId) → (check_of req told.checks ≡ check_of req asked.run.all) ⊎ HasGoneOn s told.checks req → (check_of req told.checks ≡ check_of req asked.run.all) ⊎ HasGoneOn t told.checks req
+    still_same req (inl same) = inl same
+    still_same req (inr gone) =
+        inr (record {
+          none = gone.none;
+          passed = λ q found.
+              let p = was_asked plain_of s.requests t.requests plain req q found in
+              let o = was_asked checked_of s.requests t.requests reads_on req q found in
+              let one : o.0 ≡ p.0 = some_same (sym o.1 ∙ p.1) in
+              let was = and_parts (all_asked s p.0) (may_leave p.0) (gone.passed p.0 p.1) in
+              let all : all_asked t q ≡ true = sym (ap (λ (x : Plain). list_all (is_settled_asking (is_gone t)) x.asks) p.2) ∙ settled_more s t p.0.asks gone_more was.0 in
+              let leaves : may_leave q ≡ true = sym (ap (λ (x : Checked). is_none x.prompted || holds not x.answered) o.2) ∙ ap may_leave one ∙ was.1 in
+              rw (all, leaves) refl;
+          undue = λ q found.
+              let p = was_asked plain_of s.requests t.requests plain req q found in
+              due_as t p.0 q p.2 (drops_on req p.0 q p.1 found) ∙ never_due s t p.0 gone_more (gone.undue p.0 p.1);
+        })
+
     pub discard_duly : AreAskedDuly checking start t (record told { run = told.run ++ job.doc ∷ [] })
     discard_duly =
         record {
@@ -263,9 +291,12 @@ module _ (checking : ReqId → Bool) (start s : Seen) (event : ℕ) (actor : Act
           prompted = prompted_then;
           run = record {
             was = asked.run.was;
+            all = asked.run.all;
+            same = λ req. still_same req (asked.run.same req);
             held = asked.run.held;
             said = asked.run.said;
             numbered = asked.run.numbered;
+            prompted = asked.run.prompted;
             checked = asked.run.checked;
             nothing = asked.run.nothing;
             asks = reads_then plain_of asked.run.was.requests s.requests t.requests asked.run.asks plain;
@@ -335,7 +366,16 @@ module _ (e : InEvent) (out : List RowKind) (told : Told) (asked : AreAskedDuly 
 
       unnoted_now : OpenUnnoted (todo_of told.checks) now
       unnoted_now =
-          unnoted_plain asked.run.was now asked.run.asks (todo_of told.checks) asked.run.numbered (told_numbers e.start now told asked.run) asked.run.gone (held_unnoted asked.run.was told.checks asked.run.held asked.run.said)
+          λ q found open_. by_same q found open_ (asked.run.same q.nr)
+        where
+          whole : OpenUnnoted (todo_of asked.run.all) now
+          whole =
+              unnoted_plain asked.run.was now asked.run.asks (todo_of asked.run.all) asked.run.numbered (told_numbers e.start now told asked.run) asked.run.gone (held_unnoted asked.run.was asked.run.all asked.run.held asked.run.said)
+
+          by_same : (q : Asked) → request_of now q.nr ≡ Some q → all_asked now q ≡ false → (check_of q.nr told.checks ≡ check_of q.nr asked.run.all) ⊎ HasGoneOn now told.checks q.nr → todo_of told.checks q.nr ≡ None
+          by_same q found open_ (inl same) =
+              ap (λ (o : Option OpenCheck). option_and_then prompt_of (option_map outcome_of o)) same ∙ whole q found open_
+          by_same q found open_ (inr gone) = todo_none q.nr told.checks gone.none
 
       at : (start : Seen) → start ≡ e.start → (later : List LogRow) → prompts_duly (record { start = e.start; now = (here_of e out).now; done = (here_of e out).done; later = later }) row ≡ true → prompts_duly (record { start = start; now = (here_of e out).now; done = (here_of e out).done; later = later }) row ≡ true
       at start same later passes_ = subst (λ (s : Seen). prompts_duly (record { start = s; now = (here_of e out).now; done = (here_of e out).done; later = later }) row ≡ true) (sym same) passes_

@@ -1,6 +1,6 @@
 -- The prompts that the rows of an event owe, as the table of checks tells that the coordinator had before the first of them.
 -- HTML Standard, "checking if unloading is canceled". That a table is told of a run of discarded documents once that has ended is this project's own.
-use Rattle.std.specs.Prelude.{◌≡◌, ◌++◌, Bool, true, false, List, [], ◌∷◌, fold, Option, Some, None}
+use Rattle.std.specs.Prelude.{◌≡◌, ◌⊎◌, ◌++◌, Bool, true, false, List, [], ◌∷◌, fold, Option, Some, None}
 use Rattle.tab_ids.specs.declared.DocId.{DocId}
 use Rattle.tab_ids.specs.declared.ReqId.{ReqId}
 use Rattle.log_model.specs.declared.job.Job.{Job}
@@ -9,8 +9,8 @@ use Rattle.log_model.specs.declared.job.Task.TheVariants as tasks
 use Rattle.log_model.specs.declared.row_kind.RowKind.{RowKind}
 use Rattle.log_model.specs.declared.row_kind.RowKind.TheVariants as rows
 use Rattle.log_model.specs.declared.row_kind.LogRow.{LogRow}
-use Rattle.log_model.specs.Checks.{prompts_duly}
-use Rattle.log_model.specs.Places.{is_gone}
+use Rattle.log_model.specs.Checks.{due_prompt, prompts_duly}
+use Rattle.log_model.specs.Places.{has_passed, is_gone}
 use Rattle.log_model.specs.Seen.{Asked, Document, Seen, document_of, request_of}
 use Rattle.unload_check.specs.Checks.{OpenCheck, after_all_deaths, check_of}
 use Rattle.seen_facts.proofs.Request.Readers.{SameReads}
@@ -48,27 +48,40 @@ tell_for told None = record { checks = after_all_deaths told.run told.checks; ru
 abbrev pub tell_row : Told → RowKind → Told
 tell_row told kind = tell_for told (discarded_by kind)
 
--- the table once these rows were put out
-abbrev pub told_by : List (ReqId × OpenCheck) → List RowKind → Told
-told_by checks out = fold tell_row (record { checks = checks; run = [] }) out
+-- the table once these rows were put out, where this run lasted before
+abbrev pub told_by : List DocId → List (ReqId × OpenCheck) → List RowKind → Told
+told_by ran checks out = fold tell_row (record { checks = checks; run = ran }) out
+
+-- and told of all that was discarded
+abbrev pub told_all : List DocId → List (ReqId × OpenCheck) → List RowKind → List (ReqId × OpenCheck)
+told_all ran checks out = after_all_deaths (told_by ran checks out).run (told_by ran checks out).checks
 
 -- the prompts that it notes, and by then
 abbrev pub noted_in : Told → ReqId → Option DocId
 noted_in told = todo_of told.checks
 
-abbrev pub noted_by : List (ReqId × OpenCheck) → List RowKind → ReqId → Option DocId
-noted_by checks out = noted_in (told_by checks out)
+abbrev pub noted_by : List DocId → List (ReqId × OpenCheck) → List RowKind → ReqId → Option DocId
+noted_by ran checks out = noted_in (told_by ran checks out)
 
 -- ---- what is carried
 
--- as the run that lasts began the table held each check, and nothing was due but what it noted; since then only documents were discarded, those of the run
+-- a request has passed its check while the run lasts: the table has none of it any more, and no prompt is due
+pub record HasGoneOn (now : Seen) (checks : List (ReqId × OpenCheck)) (req : ReqId) : Type 0 where
+  pub none : check_of req checks ≡ None
+  pub passed : (q : Asked) → request_of now req ≡ Some q → has_passed now q ≡ true
+  pub undue : (q : Asked) → request_of now req ≡ Some q → due_prompt now q ≡ None
+
+-- as the run that lasts began a table held each check, and nothing was due but what it noted; since then only documents were discarded, those of the run; of that table the coordinator has all checks, but of requests that have passed since
 pub record HasRun (start now : Seen) (told : Told) : Type 0 where
   pub was : Seen
-  pub held : AreHeld was told.checks
+  pub all : List (ReqId × OpenCheck)
+  pub same : (req : ReqId) → (check_of req told.checks ≡ check_of req all) ⊎ HasGoneOn now told.checks req
+  pub held : AreHeld was all
   pub said : AreSaid was
   pub numbered : HaveNumbers was
+  pub prompted : PromptedSettled was
   pub checked : OpenChecked was
-  pub nothing : NothingElseDue start (todo_of told.checks) was
+  pub nothing : NothingElseDue start (todo_of all) was
   pub asks : SameReads plain_of was.requests now.requests
   pub reads : SameReads checked_of was.requests now.requests
   pub drops : DropsNone was now

@@ -54,10 +54,10 @@ settled_acts e was out c after cause last to header slots at due put left =
     record {
       stands = record {
         but = record {
-          stands = subst (λ (x : Seen). tab.StandsFor tab.none_in_check x after.tables after.queue after.blame.entries) (sym plain_out) (as_stands tab.none_in_check (now_of e out) after.tables (told_all after.tables.checks out) after.queue after.blame.entries all.stands);
+          stands = subst (λ (x : Seen). tab.StandsFor tab.none_in_check x after.tables after.queue after.blame.entries) (sym plain_out) (as_stands tab.none_in_check (now_of e out) after.tables (told_all e.ran after.tables.checks out) after.queue after.blame.entries all.stands);
           keep = at.header ∙ ap (λ (h : Header). h.keep) (sym (header ∙ to.header));
           lasts = subst (λ (checking : ReqId → Bool). tab.LastsInLog checking after.tables.asking (log_of e out)) to.unchecked all.lasts;
-          unchecked = none_before after.tables.checks out (λ req. at.passing.work.asked.within req (off req));
+          unchecked = none_before e.ran after.tables.checks out (λ req. at.passing.work.asked.within req (off req));
           plain =
               ap (λ (checking : ReqId → Bool). unasked checking (log_of e out)) (sym to.unchecked)
               ∙ sym (now_is e out)
@@ -92,10 +92,10 @@ settled_acts e was out c after cause last to header slots at due put left =
         absurd cc
 
     -- no check is in the table
-    settled_all : IsAllTied (log_of e out) (told_all after.tables.checks out)
+    settled_all : IsAllTied (log_of e out) (told_all e.ran after.tables.checks out)
     settled_all =
-        none_tied (log_of e out) (told_all after.tables.checks out) (λ req. told_outside e.checking e.start (log_of e out) (told_by after.tables.checks out) at.passing.work.asked req (off req))
+        none_tied (log_of e out) (told_all e.ran after.tables.checks out) (λ req. told_outside e.checking e.start (log_of e out) (told_by e.ran after.tables.checks out) at.passing.work.asked req (off req))
 
-    all : tab.HasActed tab.none_in_check e out (record after.tables { checks = told_all after.tables.checks out }) after.queue after.blame.entries
+    all : tab.HasActed tab.none_in_check e out (record after.tables { checks = told_all e.ran after.tables.checks out }) after.queue after.blame.entries
     all =
         acted (pass_of e []) out after.tables after.queue after.blame.entries last false (λ never. absurd cc) at (put_makes e after.tables.running was out at.passing.work.goes at.passing.going.tab.asked put to.makes) (put_sound e was out at.passing.work.goes put to.sound) (of_coord e was out put to.coord) (λ pass. to.shows) (λ pass. to.known) settled_all (nothing_wanted e out to.unwanted) (λ free. none_due due) (taken_in e was out put to.taken)

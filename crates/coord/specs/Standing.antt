@@ -18,7 +18,7 @@ use Rattle.tab_facts.specs.Order.Orders.{IsOfCoord}
 use Rattle.tab_facts.specs.Running.Running.{AreFoundRunning}
 use Rattle.tab_facts.specs.Running.Telling.{AreTelling}
 use Rattle.seen_laws.specs.Blocks.{EachPass}
-use Rattle.seen_laws.specs.InEvent.{InEvent, WantsNothing, log_of, now_of, rows_of, start_of}
+use Rattle.seen_laws.specs.InEvent.{InEvent, OwesNothing, WantsNothing, log_of, now_of, rows_of, start_of}
 use Rattle.slot_facts.specs.Slots.{AreSlots}
 use Rattle.std.specs.Prelude.{Bool, List, None, [], false, length, true, ℕ, ◌++◌, ◌+◌, ◌≡◌}
 use Rattle.tab_ids.specs.declared.NavId.{NavId}
@@ -64,7 +64,7 @@ pub record IsOpenIn (e : InEvent) (c : Coordinator) : Type 0 where
   pub stands : StandsBut e.start c
   pub room : HasRoomFor e.start
   pub uncut : e.before ≡ []
-  pub undue : (end : Seen) → e.due end ≡ true
+  pub undue : OwesNothing e
   pub unwanted : WantsNothing e
   pub unchecked : e.checking ≡ nobody
 

@@ -156,9 +156,9 @@ module _ (e : InEvent) (t : Tables) (req : ReqId) (reason : Denial) (denied : Is
             (row_asking e.checking (log_of e []) e.event e.actor t.asking asking (rows.Refused req reason) denied.off);
         kept = tied.kept ∙ ap (λ (x : Seen). kept_states x) (sym now_is);
         asked =
-            subst (λ (x : Seen). AreAskedDuly e.checking e.start x (told_by t.checks (rows.Refused req reason ∷ []))) (sym (log_more e [] (rows.Refused req reason)))
-            (more_duly e [] (told_by t.checks []) logged.asked (rows.Refused req reason) (denied.off, undropped) (λ r. refl) held (IsAhead None) (IsAhead None) (λ later is. tt) (subst (λ (x : Seen). AllOthersPass e.checking x) (log_more e [] (rows.Refused req reason)) checks_.others));
-        lawful = lawful_pass (IsToCome None e (rows.Refused req reason ∷ [])) e (noted_by t.checks (rows.Refused req reason ∷ [])) (rows.Refused req reason ∷ []) lawful;
+            subst (λ (x : Seen). AreAskedDuly e.checking e.start x (told_by e.ran t.checks (rows.Refused req reason ∷ []))) (sym (log_more e [] (rows.Refused req reason)))
+            (more_duly e [] (told_by e.ran t.checks []) logged.asked (rows.Refused req reason) (denied.off, undropped) (λ r. refl) held (IsAhead None) (IsAhead None) (λ later is. tt) (subst (λ (x : Seen). AllOthersPass e.checking x) (log_more e [] (rows.Refused req reason)) checks_.others));
+        lawful = lawful_pass (IsToCome None e (rows.Refused req reason ∷ [])) e (noted_by e.ran t.checks (rows.Refused req reason ∷ [])) (rows.Refused req reason ∷ []) lawful;
       }
     where
       now_is : now_of e (rows.Refused req reason ∷ []) ≡ n

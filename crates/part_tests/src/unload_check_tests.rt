@@ -7,8 +7,17 @@ use unload_check::{Check, UnloadCheck};
 
 // Calls and their answers, for requests 1 to 3 and documents 1 to 6.
 // b123 begins the check of request 1 with documents 2 and 3; a12p: document 2 answers prompt, a12l: leave; d23: documents 2 and 3 died;
-// u1s: the user stays, u1l: leaves; e1 ends; o1 is the outcome: w waiting, p2 prompt of document 2, g go, s stay.
-const RUNS: [(&str, &str); 43] = [
+// u1s: the user stays, u1l: leaves; e1 ends; o1 is the outcome: w waiting, p2 prompt of document 2, g go, s stay; n123: what it would be were documents 2 and 3 to die.
+const RUNS: [(&str, &str); 46] = [
+    (
+        "b123 n13 n123 o1 a12p n13 n12 n123 o1 a13l n12 o1",
+        "w g w p2 w g w p2 p2",
+    ),
+    (
+        "b112 b223 a12p n11 n22 n223 d1 o1 n12 o2 n32",
+        "p2 w g p2 p2 w -",
+    ),
+    ("b12 a12p u1s n12 u1l n12 e1 n12", "yes s no s -"),
     ("b1 o1", "g"),
     ("b123 o1 a13p a12p o1 u1s o1 u1l e1 o1", "w p2 yes s no -"),
     (
@@ -215,6 +224,10 @@ fn answer(alloc: Global, checks: &mut UnloadCheck, call: &[u8]) -> Result<String
         }
         Some(b'd') => checks.died(&docs_from(alloc, call, 1)?),
         Some(b'e') => checks.end(req),
+        Some(b'n') => {
+            let docs = docs_from(alloc, call, 2)?;
+            return Ok(shown(alloc, checks.outcome_after(alloc, req, &docs)?)?);
+        }
         Some(b'u') => {
             let up = checks.user(req, call.get(2) == Some(&b's'));
             return Ok(String::from_str(alloc, if up { "yes" } else { "no" })?);

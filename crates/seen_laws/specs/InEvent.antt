@@ -2,6 +2,7 @@
 -- This project's own.
 use Rattle.std.specs.Prelude.{◌≡◌, ℕ, Bool, true, false, not, ◌&&◌, ◌==◌, List, [], ◌∷◌, ◌++◌, map}
 use Rattle.std.specs.List.{list_any, filter_map}
+use Rattle.tab_ids.specs.declared.DocId.{DocId}
 use Rattle.tab_ids.specs.declared.ReqId.{ReqId}
 use Rattle.log_model.specs.declared.header.Header.{Header}
 use Rattle.log_model.specs.declared.row_kind.Actor.{Actor}
@@ -25,6 +26,8 @@ pub record InEvent : Type 0 where
   pub own : RowKind
   -- the rows put out before the coordinator's last cut; what comes after goes by another `checking`
   pub before : List RowKind
+  -- the documents that the last of these discarded, where no row has ended that run and the table of unload checks wasn't told of it
+  pub ran : List DocId
   -- the requests that are in their unload check, as the coordinator has it
   pub checking : ReqId → Bool
   -- what the rows before the cut owe: whether what the log comes to without questions as the event ends pays it
@@ -60,10 +63,14 @@ rows_of e out = row_of e e.own ∷ later_of e out
 abbrev pub wanting : InEvent → (List LogRow → Bool) → InEvent
 wanting e wants = record e { wants = wants }
 
--- the event cut behind these rows: what comes after goes by this `checking`, they owe this, and of what comes after is wanted what was wanted of them and it
+-- the event, where this run of discarded documents lasts
+abbrev pub running : InEvent → List DocId → InEvent
+running e ran = record e { ran = ran }
+
+-- the event cut behind these rows, where the table of unload checks was told of what they discarded: what comes after goes by this `checking`, they owe this, and of what comes after is wanted what was wanted of them and it
 abbrev pub cut : InEvent → List RowKind → (ReqId → Bool) → (Seen → Bool) → InEvent
 cut e out checking due =
-    record e { before = e.before ++ out; checking = checking; due = due; wants = λ behind. e.wants (map (row_of e) out ++ behind) }
+    record e { before = e.before ++ out; ran = []; checking = checking; due = due; wants = λ behind. e.wants (map (row_of e) out ++ behind) }
 
 -- so it is, and this is wanted of what comes after, too
 abbrev pub cut_wanting : InEvent → List RowKind → (ReqId → Bool) → (Seen → Bool) → (List LogRow → Bool) → InEvent
@@ -77,6 +84,11 @@ AreAsWanted e out later = e.wants (map (row_of e) out ++ later) ≡ true
 -- these are, and none comes later
 abbrev pub EndAsWanted : InEvent → List RowKind → Type 0
 EndAsWanted e out = e.wants (map (row_of e) out) ≡ true
+
+-- where the event isn't cut nothing is owed, and no run of discarded documents lasts
+pub record OwesNothing (e : InEvent) : Type 0 where
+  pub due : (end : Seen) → e.due end ≡ true
+  pub ran : e.ran ≡ []
 
 -- nothing is wanted: so it is where the event isn't cut
 abbrev pub WantsNothing : InEvent → Type 0

@@ -32,7 +32,7 @@ use Rattle.seen_facts.proofs.Desk.Stays.{NoDeath}
 use Rattle.seen_facts.proofs.Each.Eaches.{each_first}
 use Rattle.seen_facts.specs.Desk.Own.{AreDesksIn, IsReportIn}
 use Rattle.seen_facts.specs.Transit.Orders.{IsOutcomeOf}
-use Rattle.seen_laws.specs.InEvent.{AreLegal, InEvent, IsTakenIn, log_of, row_of, start_of}
+use Rattle.seen_laws.specs.InEvent.{AreLegal, InEvent, IsTakenIn, OwesNothing, log_of, row_of, start_of}
 use Rattle.seen_laws.specs.Sending.{leads}
 use Rattle.seen_laws.specs.Unasked.{is_question, no_answer, unasked, without_slot}
 use Rattle.std.proofs.Common.{Bool, List, None, Option, Some, [], ap, cond, false, length, map, not, refl, subst, sym, true, ◌&&◌, ◌++◌, ◌+◌, ◌∙◌, ◌∷◌, ◌≡◌}
@@ -132,7 +132,7 @@ plain_told documents places proc (reports.Done job outcome made) told is its = b
 
 -- ---- the own row
 
-module _ (e : InEvent) (checks : List (ReqId × OpenCheck)) (uncut : e.before ≡ []) (undue : (end : Seen) → e.due end ≡ true) {table : List Load} (lasts : LastsInLog e.checking table e.start) (asks : ChecksStand e.checking e.start checks) where
+module _ (e : InEvent) (checks : List (ReqId × OpenCheck)) (uncut : e.before ≡ []) (undue : OwesNothing e) {table : List Load} (lasts : LastsInLog e.checking table e.start) (asks : ChecksStand e.checking e.start checks) where
   -- what is so behind it
   behind : (P : Seen → Type 0) (kind : RowKind) → e.own ≡ kind → P (after e.start (row_of e kind)) → P (log_of e [])
   behind P kind own is =
@@ -154,6 +154,11 @@ module _ (e : InEvent) (checks : List (ReqId × OpenCheck)) (uncut : e.before �
   none_taken : (kind : RowKind) → e.own ≡ kind → ((proc : ProcId) → kind ≡ rows.Delivered proc → ⊥) → (proc : ProcId) → e.own ≡ rows.Delivered proc → NoDeath (slice_get (desk_of e.start proc).reports 0)
   none_taken kind own other proc is = absurd (other proc (sym own ∙ is))
 
+  -- no run lasts as the event begins
+  ran_as : AreAskedDuly e.checking e.start (log_of e []) (record { checks = checks; run = [] }) → AreAskedDuly e.checking e.start (log_of e []) (told_by e.ran checks [])
+  ran_as =
+      subst (λ (docs : List DocId). AreAskedDuly e.checking e.start (log_of e []) (record { checks = checks; run = docs })) (sym undue.ran)
+
   -- ---- a request was accepted, which isn't in its check
 
   module _ (req : ReqId) (doc : Option DocId) (what : Request) (own : e.own ≡ rows.Accepted req doc what) (next : req.0 ≡ length e.start.requests + 1) (outside : e.checking req ≡ false) where
@@ -171,7 +176,7 @@ module _ (e : InEvent) (checks : List (ReqId × OpenCheck)) (uncut : e.before �
           checking = accepted_log.checks;
           calm = calm_own (rows.Accepted req doc what) own tt tt next;
           asked =
-              behind (λ (x : Seen). AreAskedDuly e.checking e.start x (told_by checks [])) (rows.Accepted req doc what) own (accepted_duly e.checking e.start e.event e.actor req doc what checks next asks.has asks.open_ asks.within);
+              ran_as (behind (λ (x : Seen). AreAskedDuly e.checking e.start x (record { checks = checks; run = [] })) (rows.Accepted req doc what) own (accepted_duly e.checking e.start e.event e.actor req doc what checks next asks.has asks.open_ asks.within));
         }
 
   -- ---- a document was evicted
@@ -191,7 +196,7 @@ module _ (e : InEvent) (checks : List (ReqId × OpenCheck)) (uncut : e.before �
           checking = evicted_log.checks;
           calm = calm_own (rows.Evicted state) own tt tt tt;
           asked =
-              behind (λ (x : Seen). AreAskedDuly e.checking e.start x (told_by checks [])) (rows.Evicted state) own (evicted_duly e.checking e.start e.event e.actor state checks asks.has asks.open_ asks.within);
+              ran_as (behind (λ (x : Seen). AreAskedDuly e.checking e.start x (record { checks = checks; run = [] })) (rows.Evicted state) own (evicted_duly e.checking e.start e.event e.actor state checks asks.has asks.open_ asks.within));
         }
 
   -- ---- a report was delivered that tells no answer and no death
@@ -262,5 +267,5 @@ module _ (e : InEvent) (checks : List (ReqId × OpenCheck)) (uncut : e.before �
           checking = delivered_log.checks;
           calm = calm_own (rows.Delivered proc) delivery.own tt plain_first tt;
           asked =
-              behind (λ (x : Seen). AreAskedDuly e.checking e.start x (told_by checks [])) (rows.Delivered proc) delivery.own (report_duly e.start e.event e.actor proc e.checking checks plain_first asks.has asks.open_ asks.within);
+              ran_as (behind (λ (x : Seen). AreAskedDuly e.checking e.start x (record { checks = checks; run = [] })) (rows.Delivered proc) delivery.own (report_duly e.start e.event e.actor proc e.checking checks plain_first asks.has asks.open_ asks.within));
         }) delivered_log legal

@@ -51,7 +51,7 @@ module _ (header : Header) (s : Seen) (event : ℕ) (checking : ReqId → Bool) 
   -- the event, the log once the answer is delivered, and the request then
   abbrev pub e : InEvent
   e =
-      record { header = header; start = s; event = event; actor = actors.Coord; own = rows.Delivered proc; before = []; checking = checking; due = λ end. true; wants = λ behind. true }
+      record { header = header; start = s; event = event; actor = actors.Coord; own = rows.Delivered proc; before = []; ran = []; checking = checking; due = λ end. true; wants = λ behind. true }
 
   abbrev pub t : Seen
   t = hearing s event actors.Coord proc job verdict None tells.first r tells.why

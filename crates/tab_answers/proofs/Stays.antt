@@ -67,7 +67,7 @@ pub record HasPrompt (checking : ReqId → Bool) (s : Seen) (es : List (ReqId ×
 module _ (header : Header) (s : Seen) (event : ℕ) (checking : ReqId → Bool) (req : ReqId) (es : List (ReqId × OpenCheck)) (asks : ChecksStand checking s es) (known : AskingKnown s) (q : Asked) (found : request_of s req ≡ Some q) (checked : is_checked q ≡ true) (awaits : awaits_answer q ≡ true) where
   abbrev pub e : InEvent
   e =
-      record { header = header; start = s; event = event; actor = actors.Ui; own = rows.Answered req true; before = []; checking = checking; due = λ end. true; wants = λ behind. true }
+      record { header = header; start = s; event = event; actor = actors.Ui; own = rows.Answered req true; before = []; ran = []; checking = checking; due = λ end. true; wants = λ behind. true }
 
   abbrev out : List RowKind
   out = rows.Dropped req drops.Stay ∷ []

@@ -95,7 +95,7 @@ cut_tied s u ties =
       kept = ties.kept;
     }
 
-module _ (p : InPass) (out : List RowKind) (t : Tables) (queue : Queue) (blame : List (StateId × ReqId)) (cause : Why) (at : HasSettled p out t queue blame cause) (makes : MakesServe (now_of p.event out)) (sound : OrdersAreSound (now_of p.event out)) (of_coord : (row : RowKind) → Has out row → IsOfCoord row) (shows : AreShownUnder (log_of p.event [])) (known : AskingKnown (log_of p.event [])) (settled : IsAllTied (log_of p.event out) (told_all t.checks out)) (taken : IsTakenIn p.event (later_of p.event out)) (free : NoStepChecks p.event.checking (log_of p.event [])) (over : AsksFirst p.event out t.running queue.waiting) (wanted : EndAsWanted p.event out) where
+module _ (p : InPass) (out : List RowKind) (t : Tables) (queue : Queue) (blame : List (StateId × ReqId)) (cause : Why) (at : HasSettled p out t queue blame cause) (makes : MakesServe (now_of p.event out)) (sound : OrdersAreSound (now_of p.event out)) (of_coord : (row : RowKind) → Has out row → IsOfCoord row) (shows : AreShownUnder (log_of p.event [])) (known : AskingKnown (log_of p.event [])) (settled : IsAllTied (log_of p.event out) (told_all p.event.ran t.checks out)) (taken : IsTakenIn p.event (later_of p.event out)) (free : NoStepChecks p.event.checking (log_of p.event [])) (over : AsksFirst p.event out t.running queue.waiting) (wanted : EndAsWanted p.event out) where
   abbrev e : InEvent
   e = p.event
 
@@ -122,7 +122,7 @@ module _ (p : InPass) (out : List RowKind) (t : Tables) (queue : Queue) (blame :
   check = record { loads = p.loads; holds = true }
 
   -- as the tab has come to rest, without it
-  before : HasActed check e out (record t { checks = told_all t.checks out }) queue blame
+  before : HasActed check e out (record t { checks = told_all e.ran t.checks out }) queue blame
   before =
       acted p out t queue blame cause true (λ held. over.idle) at makes sound of_coord (λ pass. shows) (λ pass. known) settled wanted (λ never. absurd cc) taken
 
@@ -157,7 +157,7 @@ module _ (p : InPass) (out : List RowKind) (t : Tables) (queue : Queue) (blame :
 
   -- ---- it has begun, and asked; with these rows, too, all behind a cut is as those before it want it
 
-  module _ (new : List RowKind) (u : Tables) (asking : HasBegunAsking log req (Some goal) questions out new) (begun : HasBegunCheck out req questions t u) (wanted_then : EndAsWanted p.event new) where
+  module _ (new : List RowKind) (u : Tables) (asking : HasBegunAsking log req (Some goal) questions out new) (begun : HasBegunCheck e.ran out req questions t u) (wanted_then : EndAsWanted p.event new) where
     abbrev jobs : List Job
     jobs = asking.jobs
 
@@ -186,13 +186,13 @@ module _ (p : InPass) (out : List RowKind) (t : Tables) (queue : Queue) (blame :
     has : HasChecks behind u.checks
     has =
         subst (λ (c : List (ReqId × OpenCheck)). HasChecks behind c) (sym begun.checks)
-        (has_then e out (told_by t.checks out) at.passing.work.asked settled req (Some goal) questions jobs q may.asks asking.are some may.off may.enters.checked entered (entered_same e.checking req) (entered_on e.checking req))
+        (has_then e out (told_by e.ran t.checks out) at.passing.work.asked settled req (Some goal) questions jobs q may.asks asking.are some may.off may.enters.checked entered (entered_same e.checking req) (entered_on e.checking req))
 
     checks_stand : ChecksStand entered behind u.checks
     checks_stand =
         record {
           has = has;
-          open_ = open_then e out (told_by t.checks out) at.passing.work.asked settled req (Some goal) questions jobs q may.asks asking.are some may.off may.enters.checked entered (entered_same e.checking req) (entered_on e.checking req);
+          open_ = open_then e out (told_by e.ran t.checks out) at.passing.work.asked settled req (Some goal) questions jobs q may.asks asking.are some may.off may.enters.checked entered (entered_same e.checking req) (entered_on e.checking req);
           within = goes.work.asked.within;
           calm = at_log (λ (x : Seen). NonePasses entered x) goes.work.calm;
         }
@@ -223,7 +223,7 @@ module _ (p : InPass) (out : List RowKind) (t : Tables) (queue : Queue) (blame :
         noted =
             subst (λ (x : Seen). NoneNoted x (after_all_deaths [] u.checks)) (sym (log_cut e rows_then entered then_.due))
             (subst (λ (c : List (ReqId × OpenCheck)). NoneNoted behind (after_all_deaths [] c)) (sym begun.checks)
-            (none_noted e out (told_by t.checks out) at.passing.work.asked settled req (Some goal) questions jobs q may.asks asking.are some may.off may.enters.checked entered (entered_same e.checking req) (entered_on e.checking req)))
+            (none_noted e out (told_by e.ran t.checks out) at.passing.work.asked settled req (Some goal) questions jobs q may.asks asking.are some may.off may.enters.checked entered (entered_same e.checking req) (entered_on e.checking req)))
 
     -- ---- what lasts of the log itself
 
@@ -248,7 +248,7 @@ module _ (p : InPass) (out : List RowKind) (t : Tables) (queue : Queue) (blame :
     stands : StandsFor check (now_of e_then rows_then) u queue blame
     stands =
         subst (λ (x : Seen). StandsFor check x u queue blame) (sym (now_is e_then rows_then ∙ goes.same))
-        (silent_stands s e.event behind.jobs goes.more (record t { checks = told_all t.checks out }) queue blame before.stands u begun.only tied)
+        (silent_stands s e.event behind.jobs goes.more (record t { checks = told_all e.ran t.checks out }) queue blame before.stands u begun.only tied)
       where
         tied : AreTied (silent s e.event behind.jobs s.states) u
         tied = subst (λ (x : Seen). AreTied x u) goes.same (cut_tied (unasked entered behind) u goes.ties)

@@ -19,7 +19,7 @@ use Rattle.log_model.specs.declared.row_kind.RowKind.{RowKind}
 use Rattle.seen_laws.proofs.InEvents.{now_is}
 use Rattle.seen_laws.specs.InEvent.{InEvent, log_of, now_of}
 use Rattle.seen_laws.specs.Unasked.{unasked}
-use Rattle.std.proofs.Common.{Bool, List, None, Some, [], ap, arith, false, length, refl, suc, sym, true, ℕ, ◌+◌, ◌∙◌, ◌∷◌, ◌≡◌}
+use Rattle.std.proofs.Common.{Bool, List, None, Some, [], ap, arith, false, length, refl, subst, suc, sym, true, ℕ, ◌+◌, ◌∙◌, ◌∷◌, ◌≡◌}
 use Rattle.tab_asked.proofs.Notes.{all_noted}
 use Rattle.tab_asked.proofs.Traversals.{no_load}
 use Rattle.tab_asked.specs.Asked.{GoesOnAsking, MayAsk, entered_by, log_asked}
@@ -49,7 +49,7 @@ entered_same checking req r apart = rw apart refl
 pub entered_on : (checking : ReqId → Bool) (req : ReqId) → entered_by checking req req ≡ true
 entered_on checking req = rw (nat_eq_refl req.0) refl
 
-module _ (e : InEvent) (out : List RowKind) (t : Tables) (work : IsAtWork e out t) (req : ReqId) (goal : Step) (q : Asked) (may : MayAsk e out req goal q) (some : AreSome (due_questions (log_of e out) q.what (Some goal))) (jobs : List Job) (are : AreQuestions (log_of e out) req (due_questions (log_of e out) q.what (Some goal)) jobs) (askable : IsAskable (log_of e out)) (u : Tables) (is : HasBegunCheck out req (due_questions (log_of e out) q.what (Some goal)) t u) where
+module _ (e : InEvent) (out : List RowKind) (t : Tables) (work : IsAtWork e out t) (req : ReqId) (goal : Step) (q : Asked) (may : MayAsk e out req goal q) (some : AreSome (due_questions (log_of e out) q.what (Some goal))) (jobs : List Job) (are : AreQuestions (log_of e out) req (due_questions (log_of e out) q.what (Some goal)) jobs) (askable : IsAskable (log_of e out)) (u : Tables) (is : HasBegunCheck e.ran out req (due_questions (log_of e out) q.what (Some goal)) t u) where
   abbrev log : Seen
   log = log_of e out
 
@@ -113,10 +113,10 @@ module _ (e : InEvent) (out : List RowKind) (t : Tables) (work : IsAtWork e out 
       ap (λ (x : Tables). x.states) is.only ∙ work.holds.states ∙ ap (λ (x : Seen). x.states) (now_is e out) ∙ sym states_same
 
   -- the coordinator goes on, where each check that is settled has its prompt up
-  pub goes_on : IsAllTied log (after_all_deaths (told_by t.checks out).run (told_by t.checks out).checks) → AllWanted log → GoesOnAsking e out req goal jobs u
+  pub goes_on : IsAllTied log (after_all_deaths (told_by e.ran t.checks out).run (told_by e.ran t.checks out).checks) → AllWanted log → GoesOnAsking e out req goal jobs u
   goes_on settled wanted =
       record {
-        work = begun.work_begun None e out t work req (Some goal) questions jobs q may.asks are entered same may.off on askable.fresh askable.sited u counted_so sent_so states_so is.checks asking_then (all_noted e.checking e.start log (told_by t.checks out) work.asked settled wanted) some may.enters may.unbegun may.turn may.next (λ goes. may.alone) may.sole;
+        work = begun.work_begun None e out t work req (Some goal) questions jobs q may.asks are entered same may.off on askable.fresh askable.sited u counted_so sent_so states_so is.checks asking_then (all_noted e.checking e.start log (told_by e.ran t.checks out) work.asked settled wanted) some may.enters may.unbegun may.turn may.next (λ goes. may.alone) may.sole;
         owed = begun.owed_begun None e out t work req (Some goal) questions jobs q may.asks are entered same may.off on askable.fresh askable.sited;
         ties = begun.ties_begun None e out t work req (Some goal) questions jobs q may.asks are entered same may.off on askable.fresh askable.sited u counted_so sent_so states_so;
         same = now_silent;

@@ -59,8 +59,8 @@ pub record HasCounted (orders : ℕ) (t u : Tables) : Type 0 where
   pub counted : length u.sent.items ≡ length t.sent.items + orders
   pub only : u ≡ record t { sent = u.sent }
 
--- an order was counted for each question, and the request's check has begun in a table that was told of what the rows discarded; nothing else of the tables changed
-pub record HasBegunCheck (out : List RowKind) (req : ReqId) (questions : List Question) (t u : Tables) : Type 0 where
+-- an order was counted for each question, and the request's check has begun in a table that was told of the run that lasted before and of what the rows discarded; nothing else of the tables changed
+pub record HasBegunCheck (ran : List DocId) (out : List RowKind) (req : ReqId) (questions : List Question) (t u : Tables) : Type 0 where
   pub counted : length u.sent.items ≡ length t.sent.items + length questions
-  pub checks : u.checks ≡ checks_begun (told_by t.checks out) req questions
+  pub checks : u.checks ≡ checks_begun (told_by ran t.checks out) req questions
   pub only : u ≡ record t { sent = u.sent; checks = u.checks }

@@ -11,7 +11,7 @@ ghost use Rattle.tab_doors.specs.Working.{IsAtWork};
 use crate::checks::begin_check;
 use address::OutOfMemory;
 use leave_questions::Question;
-use log_model::{Job, Out, RowKind, Task, Why};
+use log_model::{Docs, Job, Out, RowKind, Task, Why};
 use std::alloc::Global;
 use tab_doors::{Tables, count_order};
 use tab_ids::{ReqId, Step};
@@ -63,10 +63,11 @@ fn ask_all(
     Ok(())
 }
 
-/// A request begins and asks: its row, then an order to each of these documents, in their order, which asks whether it may be left. The table of checks is told of what was discarded before, and the request's check begins in it. HTML Standard, "checking if unloading is canceled".
+/// A request begins and asks: its row, then an order to each of these documents, in their order, which asks whether it may be left. The table of checks is told of what was discarded before, the run of these documents (`run`) first, and the request's check begins in it. HTML Standard, "checking if unloading is canceled".
 pub fn begin_asking(
     alloc: Global,
     tables: &mut Tables,
+    run: &mut Docs,
     out: &mut Out,
     req: ReqId,
     goal: Option<Step>,
@@ -76,9 +77,10 @@ pub fn begin_asking(
     requires work { IsAtWork e out.old tables.old }
     requires there { AreThere (log_of e out.old) questions.now }
     ensures out { OnOk result (HasBegunAsking (log_of e out.old) req goal questions.now out.old out.new) }
-    ensures tables { OnOk result (HasBegunCheck out.old req questions.now tables.old tables.new) }
+    ensures tables { OnOk result (HasBegunCheck run.old out.old req questions.now tables.old tables.new) }
+    ensures none { OnOk result (run.new ≡ []) }
 {
-    begin_check(alloc, &mut tables.checks, out, req, questions)?;
+    begin_check(alloc, &mut tables.checks, run, out, req, questions)?;
     out.push(RowKind::Started { req, goal })?;
     ask_all(tables, out, req, questions)?;
     Ok(())

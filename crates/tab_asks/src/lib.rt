@@ -6,4 +6,4 @@ mod checks;
 mod telling;
 
 pub use asking::begin_asking;
-pub use telling::tell_rows;
+pub use telling::{tell_ended, tell_rows};

@@ -1,8 +1,7 @@
 //! The table of checks is told of the documents that rows discarded.
-ghost use Rattle.std.specs.Prelude.{◌≡◌, IfOk, OnOk};
-ghost use Rattle.checking_facts.specs.Prompts.{discarded_by, tell_row, told_by};
+ghost use Rattle.std.specs.Prelude.{◌≡◌, [], OnOk};
+ghost use Rattle.checking_facts.specs.Prompts.{discarded_by, tell_row, told_all, told_by};
 ghost use Rattle.log_model.specs.declared.row_kind.RowKind.TheVariants as rows;
-ghost use Rattle.unload_check.specs.Checks.{after_all_deaths};
 
 use address::OutOfMemory;
 use log_model::{Docs, Job, Out, RowKind, Task};
@@ -30,44 +29,55 @@ fn discarded_by(row: &RowKind) -> Option<DocId>
     }
 }
 
-/// The run of discarded documents once one more row was put out. A row that ends it tells the table.
+/// The run of discarded documents (`run`) once one more row was put out. A row that ends it tells the table.
 fn tell_row(
     alloc: Global,
     checks: &mut UnloadCheck,
-    run: Docs,
+    run: &mut Docs,
     row: &RowKind,
-) -> Result<Docs, OutOfMemory>
-    ensures { IfOk result (λ now. record { checks = checks.new; run = now } ≡ tell_row (record { checks = checks.old; run = run }) row.now) }
+) -> Result<(), OutOfMemory>
+    ensures { OnOk result (record { checks = checks.new; run = run.new } ≡ tell_row (record { checks = checks.old; run = run.old }) row.now) }
 {
-    let mut run = run;
     match discarded_by(row) {
         Some(doc) => {
             run.push(doc)?;
-            Ok(run)
+            Ok(())
         }
         None => {
-            checks.died(&run);
-            Ok(Docs::new(alloc))
+            checks.died(run);
+            *run = Docs::new(alloc);
+            Ok(())
         }
     }
 }
 
-/// Tells the table of each run of discarded documents that a row ended. The documents of the run that lasts.
-fn tell_ended(alloc: Global, checks: &mut UnloadCheck, out: &Out) -> Result<Docs, OutOfMemory>
-    ensures { IfOk result (λ run. record { checks = checks.new; run = run } ≡ told_by checks.old out.now) }
+/// Tells the table of each run of discarded documents that a row ended. `run` is the one that lasted before these rows, and then the one that lasts behind them.
+pub fn tell_ended(
+    alloc: Global,
+    checks: &mut UnloadCheck,
+    run: &mut Docs,
+    out: &Out,
+) -> Result<(), OutOfMemory>
+    ensures { OnOk result (record { checks = checks.new; run = run.new } ≡ told_by run.old checks.old out.now) }
 {
-    let mut run = Docs::new(alloc);
     for row in out.as_slice() {
-        run = tell_row(alloc, checks, run, row)?;
+        tell_row(alloc, checks, run, row)?;
     }
-    Ok(run)
+    Ok(())
 }
 
-/// Tells a table of checks, as it was before these rows, of the documents that they discarded, one run after the other; the run that lasts ends here.
-pub fn tell_rows(alloc: Global, checks: &mut UnloadCheck, out: &Out) -> Result<(), OutOfMemory>
-    ensures { OnOk result (checks.new ≡ after_all_deaths (told_by checks.old out.now).run (told_by checks.old out.now).checks) }
+/// Tells a table of checks, as it was before these rows, of the documents that they discarded, one run after the other; the first goes on with the one that lasted before (`run`), and the last ends here.
+pub fn tell_rows(
+    alloc: Global,
+    checks: &mut UnloadCheck,
+    run: &mut Docs,
+    out: &Out,
+) -> Result<(), OutOfMemory>
+    ensures told { OnOk result (checks.new ≡ told_all run.old checks.old out.now) }
+    ensures none { OnOk result (run.new ≡ []) }
 {
-    let run = tell_ended(alloc, checks, out)?;
-    checks.died(&run);
+    tell_ended(alloc, checks, run, out)?;
+    checks.died(run);
+    *run = Docs::new(alloc);
     Ok(())
 }

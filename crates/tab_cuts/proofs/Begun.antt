@@ -102,7 +102,7 @@ begun_states e out req goal jobs =
 
 -- ---- a coordinator at work stands beside its checks
 
-pub stands_work : (move : Option Move) (but : ReqId → Bool) (e : InEvent) (out : List RowKind) (t : Tables) → IsAtWorkFor move e out t → NotesWanted (log_of e out) (told_by t.checks out).checks → StandsAsked (IsToCome move e out) but e out (told_by t.checks out)
+pub stands_work : (move : Option Move) (but : ReqId → Bool) (e : InEvent) (out : List RowKind) (t : Tables) → IsAtWorkFor move e out t → NotesWanted (log_of e out) (told_by e.ran t.checks out).checks → StandsAsked (IsToCome move e out) but e out (told_by e.ran t.checks out)
 stands_work move but e out t work notes =
     record {
       pass = work.lawful;
@@ -159,8 +159,8 @@ module _ (move : Option Move) (e : InEvent) (out : List RowKind) (t : Tables) (w
           subst (λ (s : Seen). (log_of e out).jobs ≤ s.jobs) (sym (block_log e out req goal jobs)) (jobs_asked e (after (log_of e out) (row_of e (rows.Started req goal))) jobs)
 
   -- it is at work
-  module _ (u : Tables) (is : u ≡ counted (now_of e out) e.event behind.jobs behind.states move t u) (sent : length u.sent.items ≡ behind.jobs + 1) (states : u.states ≡ behind.states) (checks : u.checks ≡ checks_begun (told_by t.checks out) req questions) where
-    pub work_begun : TiesAsking entered behind u.asking → (notes : NotesWanted (log_of e out) (told_by t.checks out).checks) → AreSome questions → MayEnter q → list_any (begins req) (e.before ++ out) ≡ false → MayBeginTo (here_of e out) (row_of e (rows.Started req goal)) req goal q → IsNextState (log_of e out) (record { 0 = (log_of e out).states + 1 }) → (is_traversal q.what ≡ true → NoOtherUnderWay (log_of e out) req) → BeginsSole e out (rows.Started req goal) → IsAtWorkFor move then_begun [] u
+  module _ (u : Tables) (is : u ≡ counted (now_of e out) e.event behind.jobs behind.states move t u) (sent : length u.sent.items ≡ behind.jobs + 1) (states : u.states ≡ behind.states) (checks : u.checks ≡ checks_begun (told_by e.ran t.checks out) req questions) where
+    pub work_begun : TiesAsking entered behind u.asking → (notes : NotesWanted (log_of e out) (told_by e.ran t.checks out).checks) → AreSome questions → MayEnter q → list_any (begins req) (e.before ++ out) ≡ false → MayBeginTo (here_of e out) (row_of e (rows.Started req goal)) req goal q → IsNextState (log_of e out) (record { 0 = (log_of e out).states + 1 }) → (is_traversal q.what ≡ true → NoOtherUnderWay (log_of e out) req) → BeginsSole e out (rows.Started req goal) → IsAtWorkFor move then_begun [] u
     work_begun asking notes some may unbegun begin next goes_not begins_sole =
         work_behind move e (out ++ block) entered (owes_seen e out) u nobody work.own work.worker work.numbered sole debts_begun stands (ties_begun u is sent states) asking (calm_beside (IsToCome move then_begun []) then_begun [] (record { checks = u.checks; run = [] }) stands)
       where
@@ -185,4 +185,4 @@ module _ (move : Option Move) (e : InEvent) (out : List RowKind) (t : Tables) (w
         stands : StandsAsked (IsToCome move then_begun []) nobody then_begun [] (record { checks = u.checks; run = [] })
         stands =
             subst (λ (c : _). StandsAsked (IsToCome move then_begun []) nobody then_begun [] (record { checks = c; run = [] })) (sym checks)
-            (begun_stands e out (told_by t.checks out) (IsToCome move e out) nobody (stands_work move nobody e out t work notes) work.calm req goal questions jobs q begins_ are some may work.own unbegun off (IsToCome move then_begun []) entered (owes_seen e out) same on (λ later is. come_on move move e out block later (ahead later) is) begin next goes_not)
+            (begun_stands e out (told_by e.ran t.checks out) (IsToCome move e out) nobody (stands_work move nobody e out t work notes) work.calm req goal questions jobs q begins_ are some may work.own unbegun off (IsToCome move then_begun []) entered (owes_seen e out) same on (λ later is. come_on move move e out block later (ahead later) is) begin next goes_not)

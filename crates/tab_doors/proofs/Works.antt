@@ -237,11 +237,11 @@ module _ {sweeps : Bool} {from : Option Move} (e : InEvent) (out : List RowKind)
       }
     where
       told : Told
-      told = told_by t.checks out
+      told = told_by e.ran t.checks out
 
       -- the table is told of the row
-      told_then : told_by u.checks (out ++ kind ∷ []) ≡ tell_row told kind
-      told_then = ap (λ (c : List (ReqId × OpenCheck)). told_by c (out ++ kind ∷ [])) same ∙ fold-append tell_row (record { checks = t.checks; run = [] }) out (kind ∷ [])
+      told_then : told_by e.ran u.checks (out ++ kind ∷ []) ≡ tell_row told kind
+      told_then = ap (λ (c : List (ReqId × OpenCheck)). told_by e.ran c (out ++ kind ∷ [])) same ∙ fold-append tell_row (record { checks = t.checks; run = e.ran }) out (kind ∷ [])
 
       checks_ : AreInCheck e.checking (log_of e (out ++ kind ∷ []))
       checks_ =

@@ -74,7 +74,7 @@ IsToCome move e out later = IsAhead move later × AreAsWanted e out later
 
 -- the own row and those put out so far pass each test, whatever comes later, as long as it is what is to come, and prompts as it is due by a table that had these checks before the first of them
 abbrev pub AreLawfulFor : Option Move → InEvent → List (ReqId × OpenCheck) → List RowKind → Type 0
-AreLawfulFor move e checks out = PassIf (IsToCome move e out) e (noted_by checks out) out
+AreLawfulFor move e checks out = PassIf (IsToCome move e out) e (noted_by e.ran checks out) out
 
 -- the order may be sent here, as long as what comes later has what is ahead, and the prompts that the order makes due
 abbrev pub MaySend : Option Move → InEvent → List RowKind → Job → Type 0
@@ -123,7 +123,7 @@ pub record IsAtWorkIn (sweeps : Bool) (move : Option Move) (e : InEvent) (out : 
   pub asking : TiesAsking e.checking (log_of e out) t.asking
   pub kept : t.kept.states ≡ kept_in move t.kept.keep (kept_states (now_of e out))
   -- the table of checks holds those of the requests in their check, told of the documents that the rows discarded; and the rows pass, if the prompts come that are due
-  pub asked : AreAskedDuly e.checking e.start (log_of e out) (told_by t.checks out)
+  pub asked : AreAskedDuly e.checking e.start (log_of e out) (told_by e.ran t.checks out)
   pub lawful : AreLawfulFor move e t.checks out
 
 -- where none are

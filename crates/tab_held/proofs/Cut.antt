@@ -36,7 +36,7 @@ use Rattle.tab_prompts.proofs.Since.{so_since}
 use Rattle.tab_prompts.proofs.Told.{told_asked}
 use Rattle.tab_prompts.proofs.Waited.{wanted_then}
 use Rattle.tab_prompts.proofs.Works.{prompts_are, prompts_keep, same_prompted}
-use Rattle.tab_prompts.specs.Asking.{AreAllWaiting, AreUnderWay, BeginsAsked, told_of}
+use Rattle.tab_prompts.specs.Asking.{AreAllWaiting, AreUnderWay, BeginsAsked, told_all}
 use Rattle.tab_prompts.specs.Prompts.{is_settled_in, is_waiting, prompts_for, waiting_among}
 use Rattle.tab_prompts.specs.Sparing.{new_notes, spares}
 use Rattle.tab_settles.specs.Held.{DiscardsUnheld, EndsRun, IsClearedIn, NoneStray}
@@ -57,10 +57,10 @@ module _ (p : InPass) (mid : List RowKind) (t : Tables) (queue : Queue) (blame :
   waited = waiting_among t.checks (req ∷ [])
 
   abbrev told : List (ReqId × OpenCheck)
-  told = told_of t.checks mid
+  told = told_all e.ran t.checks mid
 
   abbrev prompts : List RowKind
-  prompts = held_prompts t.checks mid req
+  prompts = held_prompts p.event t.checks mid req
 
   abbrev pub then_ : InEvent
   then_ = held_cut p.event mid t.checks req
@@ -69,7 +69,7 @@ module _ (p : InPass) (mid : List RowKind) (t : Tables) (queue : Queue) (blame :
   then_pass = record p { event = held_cut p.event mid t.checks req }
 
   abbrev pub then_tables : Tables
-  then_tables = record t { checks = told_of t.checks mid }
+  then_tables = record t { checks = told_all e.ran t.checks mid }
 
   -- it is under way still
   way : AreUnderWay (log_of p.event mid) (waiting_among t.checks (req ∷ []))
@@ -81,7 +81,7 @@ module _ (p : InPass) (mid : List RowKind) (t : Tables) (queue : Queue) (blame :
   -- the log without questions is as it was
   pub seen_then : now_of (held_cut p.event mid t.checks req) [] ≡ now_of p.event mid
   seen_then =
-      same_prompted e mid prompts (prompts_are told waited) finished (spares (new_notes (told_by t.checks mid).checks told))
+      same_prompted e mid prompts (prompts_are told waited) finished (spares (new_notes (told_by e.ran t.checks mid).checks told)) []
 
   over : (P : Seen → Type 0) → P (now_of e mid) → P (now_of then_ [])
   over P is = subst P (sym seen_then) is
@@ -125,13 +125,13 @@ module _ (p : InPass) (mid : List RowKind) (t : Tables) (queue : Queue) (blame :
 
   -- ---- where its check isn't over
 
-  module _ (open_ : goes_on (told_of t.checks mid) req ≡ false) where
+  module _ (open_ : goes_on (told_all e.ran t.checks mid) req ≡ false) where
     noted : (r : ReqId) (q : Asked) → request_of (log_of then_ []) r ≡ Some q → is_traversal q.what ≡ true → Has waited r → is_settled_in told r ≡ true → IsNotedFor told r
     noted r q found goes has settled =
         let one : req ≡ r = one_is t.checks req r has in
         noted_or_over told r settled (ap (λ (x : ReqId). goes_on told x) (sym one) ∙ open_)
 
-    pub begins_then : BeginsAsked (held_cut p.event mid t.checks req) (told_of t.checks mid)
+    pub begins_then : BeginsAsked (held_cut p.event mid t.checks req) (told_all e.ran t.checks mid)
     begins_then =
         begins_again None e mid t at.ready.passing.work begins waited (one_apart t.checks req) (one_waits t.checks req) way all noted
 
@@ -157,7 +157,7 @@ module _ (p : InPass) (mid : List RowKind) (t : Tables) (queue : Queue) (blame :
       subst AskingKnown (sym (log_cut e (mid ++ prompts) e.checking (owes_seen e mid)))
       (known_prompts e told waited mid (told_asked None e mid t at.ready.passing.work begins).notes is)
 
-  module _ (ends : EndsRun mid ⊎ NoneStray (now_of p.event mid)) (open_ : goes_on (told_of t.checks mid) req ≡ false) where
+  module _ (ends : EndsRun mid ⊎ NoneStray (now_of p.event mid)) (open_ : goes_on (told_all e.ran t.checks mid) req ≡ false) where
     -- it is in its check still, and under way
     held_then : MayDiscardIn false then_ → ⊥
     held_then free =
@@ -176,12 +176,13 @@ module _ (p : InPass) (mid : List RowKind) (t : Tables) (queue : Queue) (blame :
         wanted_then p mid t queue blame cause at.ready begins waited (one_apart t.checks req) (one_waits t.checks req) way ends more (λ none. quiet held_then)
 
     -- and behind it the second part of the pass follows
-    pub rested_at : (more out : List RowKind) (u : Tables) → u.checks ≡ told_of t.checks mid → out ≡ (mid ++ held_prompts t.checks mid req) ++ more → u.running ≡ None → HasSettled then_pass more u queue blame cause → DiscardsUnheld then_ [] more → HasPut then_ [] more → LeavesOff then_ [] more → HasRestedAt (record { held = record { pass = p; queue = queue }; at = held_cut p.event mid t.checks req }) mid (held_prompts t.checks mid req) out u blame cause
+    pub rested_at : (more out : List RowKind) (u : Tables) → u.checks ≡ told_all e.ran t.checks mid → out ≡ (mid ++ held_prompts p.event t.checks mid req) ++ more → u.running ≡ None → HasSettled then_pass more u queue blame cause → DiscardsUnheld then_ [] more → HasPut then_ [] more → LeavesOff then_ [] more → HasRestedAt (record { held = record { pass = p; queue = queue }; at = held_cut p.event mid t.checks req }) mid (held_prompts p.event t.checks mid req) out u blame cause
     rested_at more out u same is idle settled quiet put off =
         record {
           are = prompts_are told waited;
           goes = goes;
           same = refl;
+          ran = refl;
           seen = seen_then;
           begins = subst (λ (l : List (ReqId × OpenCheck)). BeginsAsked then_ l) (sym same) (begins_then open_);
           known = known;
@@ -196,7 +197,7 @@ module _ (p : InPass) (mid : List RowKind) (t : Tables) (queue : Queue) (blame :
 
   -- ---- for the call
 
-  module _ (x : InEvent) (is : x ≡ held_cut p.event mid t.checks req) (checks : List (ReqId × OpenCheck)) (told_is : checks ≡ told_of t.checks mid) (open_ : goes_on checks req ≡ false) where
+  module _ (x : InEvent) (is : x ≡ held_cut p.event mid t.checks req) (checks : List (ReqId × OpenCheck)) (told_is : checks ≡ told_all e.ran t.checks mid) (open_ : goes_on checks req ≡ false) where
     -- what the second part asks
     pub rest_asks : (more : List RowKind) → more ≡ [] → IsClearedIn false (record p { event = x }) more (record t { checks = checks }) queue blame cause
     rest_asks more none =
@@ -208,7 +209,7 @@ module _ (p : InPass) (mid : List RowKind) (t : Tables) (queue : Queue) (blame :
     header_asks = ap (λ (y : InEvent). y.header) (sym is)
 
     -- and what is so behind it
-    pub rest_says : EndsRun mid ⊎ NoneStray (now_of p.event mid) → (first more out : List RowKind) (u : Tables) → first ≡ [] → u.checks ≡ checks → out ≡ (mid ++ prompts_for checks (waiting_among t.checks (req ∷ []))) ++ more → u.running ≡ None → HasSettled (record p { event = x }) more u queue blame cause → DiscardsUnheld x first more → HasPut x first more → LeavesOff x first more → HasRestedAt (record { held = record { pass = p; queue = queue }; at = x }) mid (held_prompts t.checks mid req) out u blame cause
+    pub rest_says : EndsRun mid ⊎ NoneStray (now_of p.event mid) → (first more out : List RowKind) (u : Tables) → first ≡ [] → u.checks ≡ checks → out ≡ (mid ++ prompts_for checks (waiting_among t.checks (req ∷ []))) ++ more → u.running ≡ None → HasSettled (record p { event = x }) more u queue blame cause → DiscardsUnheld x first more → HasPut x first more → LeavesOff x first more → HasRestedAt (record { held = record { pass = p; queue = queue }; at = x }) mid (held_prompts p.event t.checks mid req) out u blame cause
     rest_says ends first more out u none same rows_are idle settled quiet put off =
-        subst (λ (y : InEvent). HasRestedAt (record { held = record { pass = p; queue = queue }; at = y }) mid (held_prompts t.checks mid req) out u blame cause) (sym is)
+        subst (λ (y : InEvent). HasRestedAt (record { held = record { pass = p; queue = queue }; at = y }) mid (held_prompts p.event t.checks mid req) out u blame cause) (sym is)
         (rested_at ends (ap (λ (l : List (ReqId × OpenCheck)). goes_on l req) (sym told_is) ∙ open_) more out u (same ∙ told_is) (rows_are ∙ ap (λ (l : List (ReqId × OpenCheck)). (mid ++ prompts_for l (waiting_among t.checks (req ∷ []))) ++ more) told_is) idle (subst (λ (y : InEvent). HasSettled (record p { event = y }) more u queue blame cause) is settled) (subst (λ (y : InEvent). DiscardsUnheld y [] more) is (subst (λ (l : List RowKind). DiscardsUnheld x l more) none quiet)) (subst (λ (y : InEvent). HasPut y [] more) is (subst (λ (l : List RowKind). HasPut x l more) none put)) (subst (λ (y : InEvent). LeavesOff y [] more) is (subst (λ (l : List RowKind). LeavesOff x l more) none off)))

@@ -10,7 +10,7 @@ use Rattle.seen_facts.specs.Hang.Members.{Has}
 use Rattle.seen_laws.proofs.Cuts.{later_cut, log_cut, rows_cut}
 use Rattle.seen_laws.proofs.InEvents.{later_more}
 use Rattle.seen_laws.specs.Blocks.{EachPass, Here, Passes, on_row, point_at}
-use Rattle.seen_laws.specs.InEvent.{EndAsWanted, InEvent, IsTakenIn, cut, later_of, log_of, now_of, row_of, rows_of, start_of, wanting}
+use Rattle.seen_laws.specs.InEvent.{EndAsWanted, InEvent, IsTakenIn, cut, later_of, log_of, now_of, row_of, rows_of, running, start_of, wanting}
 use Rattle.std.proofs.Common.{Bool, List, [], ap, append_assoc, inl, inr, map, subst, sym, true, ◌++◌, ◌∙◌, ◌∷◌, ◌≡◌, ◌⊎◌}
 use Rattle.tab_doors.specs.declared.tables.Tables.{Tables}
 use Rattle.tab_facts.specs.Order.Orders.{IsOfCoord}
@@ -58,7 +58,7 @@ module _ (e : InEvent) (mid prompts more : List RowKind) (are : ArePrompts promp
 
   module _ (at : InEvent) (goes : GoesOn e (mid ++ prompts) at) where
     abbrev same : InEvent
-    same = wanting (cut e (mid ++ prompts) at.checking at.due) at.wants
+    same = running (wanting (cut e (mid ++ prompts) at.checking at.due) at.wants) at.ran
 
     is : at ≡ same
     is = goes_is e (mid ++ prompts) at goes
@@ -94,7 +94,7 @@ module _ (p : InPass) (was out : List RowKind) (t u : Tables) (queue : Queue) (b
   mid = rested.mid
 
   abbrev prompts : List RowKind
-  prompts = held_prompts t.checks rested.mid req
+  prompts = held_prompts p.event t.checks rested.mid req
 
   mid_coord : (row : RowKind) → Has mid row → IsOfCoord row
   mid_coord row has =
@@ -126,10 +126,10 @@ module _ (p : InPass) (was out : List RowKind) (t u : Tables) (queue : Queue) (b
   check = record { loads = p.loads; holds = true }
 
   abbrev v : Tables
-  v = record u { checks = told_all u.checks rested.rested.more }
+  v = record u { checks = told_all rested.at.ran u.checks rested.rested.more }
 
   -- each check that is settled has its prompt up, and the rows are as they were wanted: the coordinator stands for what the log would have come to, with the traversal in its check still
-  pub held_acts : MakesServe (now_of p.event was) → OrdersAreSound (now_of p.event was) → AreShownUnder (log_of p.event []) → AskingKnown (log_of p.event []) → IsTakenUp p.event was → IsAllTied (log_of rested.at rested.rested.more) (told_all u.checks rested.rested.more) → EndAsWanted p.event out → HasActed (record { loads = p.loads; holds = true }) p.event out (record u { checks = told_all u.checks rested.rested.more }) queue blame
+  pub held_acts : MakesServe (now_of p.event was) → OrdersAreSound (now_of p.event was) → AreShownUnder (log_of p.event []) → AskingKnown (log_of p.event []) → IsTakenUp p.event was → IsAllTied (log_of rested.at rested.rested.more) (told_all rested.at.ran u.checks rested.rested.more) → EndAsWanted p.event out → HasActed (record { loads = p.loads; holds = true }) p.event out (record u { checks = told_all rested.at.ran u.checks rested.rested.more }) queue blame
   held_acts makes sound shows known taken settled wanted =
       subst (λ (l : List RowKind). HasActed check e l v queue blame) (sym rested.rested.is)
       (subst (λ (checking : ReqId → Bool). HasActed check (with_checking e checking) ((mid ++ prompts) ++ rested.rested.more) v queue blame) rested.rested.same

@@ -125,7 +125,7 @@ module _ (e : InEvent) (req : ReqId) (nav : NavId) (mode : Mode) (address : List
 
     -- the own row owes nothing
     own_paid : (end : Seen) → owes_seen e [] end ≡ true
-    own_paid end = rw (asks.undue end) refl
+    own_paid end = rw (asks.undue.due end) refl
 
     none_way : (u : Tables) (noted : List (StateId × ReqId)) → HasNone nav t u [] blame noted → IsMadeWay s [] noted
     none_way u noted it =

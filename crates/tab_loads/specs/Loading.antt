@@ -18,7 +18,7 @@ use Rattle.log_model.specs.declared.job.Why.{Why}
 use Rattle.log_model.specs.declared.outcome.Denial.{Denial}
 use Rattle.log_model.specs.declared.request.Mode.{Mode}
 use Rattle.log_model.specs.declared.row_kind.RowKind.{RowKind}
-use Rattle.seen_laws.specs.InEvent.{InEvent, log_of, now_of}
+use Rattle.seen_laws.specs.InEvent.{InEvent, OwesNothing, log_of, now_of}
 use Rattle.std.specs.List.{list_all}
 use Rattle.std.specs.Prelude.{Bool, List, None, Option, Some, [], false, is_some, length, slice_get, true, ℕ, ◌++◌, ◌+◌, ◌∷◌, ◌≡◌, ◌⊎◌}
 use Rattle.tab_drops.specs.Dropping.{IsLoadOf}
@@ -44,7 +44,7 @@ pub record IsLoadAsk (e : InEvent) (req : ReqId) (nav : NavId) (mode : Mode) (ad
   pub outside : e.checking req ≡ false
   pub apart : NoneChecksBefore e.checking (log_of e []) req nav
   pub uncut : e.before ≡ []
-  pub undue : (end : Seen) → e.due end ≡ true
+  pub undue : OwesNothing e
   pub read : IsOwnRead e
 
 -- a walk leaves a document only where no step is in its check: none was as the event began, or a traversal in its check holds the queue, so that none runs

@@ -1,8 +1,8 @@
 -- A traversal passes its check in the midst of an event: as in the log without questions it has begun then, the tables go on with it running, the event is cut there, and a pass may follow for it.
+use Rattle.asking_facts.proofs.Standing.{gone_stands, stands_wanting}
 use Rattle.tab_doors.specs.AskingLoads.{TiesAsking}
 use Rattle.tab_doors.proofs.Keeping.{no_load_at, traversal_no_load}
 use Rattle.tab_doors.proofs.AskingLoads.{asking_passed}
-use Rattle.asking_facts.proofs.Standing.{passed_stands}
 use Rattle.asking_facts.specs.Prompting.{NoneAnsweredEarly}
 use Rattle.asking_facts.specs.Standing.{StandsAsked}
 use Rattle.check_facts.proofs.Tables.{check_ended}
@@ -12,11 +12,13 @@ use Rattle.leave_facts.proofs.Carried.{AreLeftDuly}
 use Rattle.load_doors.specs.Tied.{AreTied}
 use Rattle.log_model.specs.Causes.{denial_at_acceptance}
 use Rattle.log_model.specs.Equal.{has_req}
-use Rattle.log_model.specs.Places.{all_asked, has_passed, is_traversal, is_under_way}
+use Rattle.log_model.specs.Checks.{due_prompt}
+use Rattle.log_model.specs.Places.{has_passed, is_traversal, is_under_way}
 use Rattle.log_model.specs.Seen.{Asked, Seen, request_of}
 use Rattle.log_model.specs.declared.job.Job.{Job}
 use Rattle.log_model.specs.declared.job.Why.{Why}
 use Rattle.log_model.specs.declared.job.Why.TheVariants as whys
+use Rattle.log_model.specs.declared.row_kind.LogRow.{LogRow}
 use Rattle.log_model.proofs.Refl.{nat_eq_refl}
 use Rattle.move_queue.specs.Queue.{Queue}
 use Rattle.move_queue.specs.declared.queue_step.QueueStep.{QueueStep}
@@ -32,15 +34,17 @@ use Rattle.seen_facts.specs.Coord.Leading.{held_back}
 use Rattle.seen_facts.specs.Each.Runs.{EachAsked}
 use Rattle.seen_laws.proofs.Cuts.{log_cut}
 use Rattle.seen_laws.proofs.InEvents.{now_is}
-use Rattle.seen_laws.specs.InEvent.{InEvent, log_of, now_of}
+use Rattle.seen_laws.specs.InEvent.{InEvent, cut, log_of, now_of}
 use Rattle.seen_laws.specs.Unasked.{unasked, unasked_request, unbegun, without_asks}
 use Rattle.std.proofs.Common.{Bool, List, None, Option, Some, [], ap, cond, false, inr, length, refl, subst, sym, true, ℤ, ◌==◌, ◌∙◌, ◌∷◌, ◌≡◌, ◌≤◌, ◌⊎◌}
 use Rattle.std.proofs.lemmas.Bool.{and_parts}
+use Rattle.std.specs.Option.{option_map_or}
 use Rattle.std.specs.Prelude.{is_none, nat_lt, option_map, slice_get}
 use Rattle.tab_begins.proofs.Begins.{loads_move, open_then}
 use Rattle.tab_begins.proofs.Stood.{calm_begun}
 use Rattle.tab_begins.specs.Queueing.{HasPassed}
-use Rattle.tab_cuts.proofs.Works.{calm_beside, work_cut}
+use Rattle.tab_cuts.proofs.Owed.{loose_wanting}
+use Rattle.tab_cuts.proofs.Works.{calm_beside, work_wanting}
 use Rattle.tab_cuts.specs.Cut.{TiesCut}
 use Rattle.tab_doors.specs.Working.{IsAtWork, IsToCome, MayDiscardIn}
 use Rattle.tab_doors.specs.declared.tables.Tables.{Tables}
@@ -64,6 +68,7 @@ use Rattle.tab_passed.proofs.Opens as opens
 use Rattle.tab_passed.proofs.Who.{without_off, without_same}
 use Rattle.tab_passed.specs.Passing.{IsInFront, passed_tables, without}
 use Rattle.tab_prompts.specs.Asking.{BeginsAsked, WasOpen, are_unheard}
+use Rattle.tab_prompts.specs.Prompts.{is_open, is_waiting}
 use Rattle.tab_settles.proofs.MovedRows.{shown_unmoved}
 use Rattle.tab_settles.proofs.PassedOn.{live_then}
 use Rattle.tab_settles.proofs.Sounds.{KeepsWhat, sound_on}
@@ -76,7 +81,7 @@ use Rattle.unasked.proofs.Readings.{request_read}
 use Rattle.unasked_dues.specs.Checking.{AreNumbered, NoStepChecks, NonePasses}
 use Rattle.unasked_tab.proofs.Begun.{with_begun}
 use Rattle.unload_check.proofs.Stays.{others_ended}
-use Rattle.unload_check.specs.Checks.{check_of, ended}
+use Rattle.unload_check.specs.Checks.{OpenCheck, check_of, ended, outcome_of}
 
 -- one that is under way has begun, and is open
 under_parts : (q : Asked) → is_under_way q ≡ true → (q.is_started ≡ true) × (q.ending ≡ None)
@@ -87,6 +92,10 @@ under_parts q under =
     none_is : {A : Type 0} (o : Option A) → is_none o ≡ true → o ≡ None
     none_is None is = refl
     none_is (Some x) is = absurd cc
+
+-- whether a check waits
+abbrev waits_by : Option OpenCheck → Bool
+waits_by o = option_map_or is_open (option_map outcome_of o) false
 
 -- who is first is among them
 first_has : (reqs : List ReqId) (req : ReqId) → slice_get reqs 0 ≡ Some req → has_req reqs req ≡ true
@@ -240,10 +249,21 @@ module _ (e : InEvent) (loads : List ReqId) (t : Tables) (queue : Queue) (blame 
 
   -- ---- its check ends
 
-  stands : StandsAsked (IsToCome None at []) (λ (r : ReqId). false) at [] (record { checks = ended req t.checks; run = [] })
+  -- what the rows before the cut wanted of those behind
+  abbrev wants : List LogRow → Bool
+  wants = (cut e [] passed (due_without e req)).wants
+
+  stands : StandsAsked (IsToCome None at []) (λ (r : ReqId). false) at [] (record { checks = ended req t.checks; run = e.ran })
   stands =
-      passed_stands (IsToCome None e []) (just req) (λ (r : ReqId). false) e [] t.checks cut_for.stands req (λ r apart none. apart) passed (due_without e req) same off has (λ x found_ un. to_go.unnoted)
+      stands_wanting (IsToCome None e []) (λ (r : ReqId). false) (cut e [] passed (due_without e req)) [] (record { checks = ended req t.checks; run = e.ran }) wants e.ran
+      (gone_stands (IsToCome None e []) (just req) (λ (r : ReqId). false) e [] (record { checks = t.checks; run = e.ran }) cut_for.stands req (λ r apart none. apart) passed (due_without e req) same off has undue to_go.unnoted)
     where
+      undue : (x : Asked) → request_of log req ≡ Some x → due_prompt log x ≡ None
+      undue x found_ =
+          let both : Some q ≡ Some x = sym to_go.at ∙ found_ in
+          let one : q ≡ x = cc in
+          subst (λ (y : Asked). due_prompt log y ≡ None) one to_go.undue
+
       has : (x : Asked) → request_of log req ≡ Some x → has_passed log x ≡ true
       has x found_ =
           let both : Some q ≡ Some x = sym to_go.at ∙ found_ in
@@ -251,7 +271,7 @@ module _ (e : InEvent) (loads : List ReqId) (t : Tables) (queue : Queue) (blame 
           subst (λ (y : Asked). has_passed log y ≡ true) one to_go.passed
 
   calm : NonePasses passed (log_of at [])
-  calm = calm_beside (IsToCome None at []) at [] (record { checks = ended req t.checks; run = [] }) stands
+  calm = calm_beside (IsToCome None at []) at [] (record { checks = ended req t.checks; run = e.ran }) stands
 
   ties : TiesCut None (unasked passed log) u
   ties =
@@ -277,10 +297,12 @@ module _ (e : InEvent) (loads : List ReqId) (t : Tables) (queue : Queue) (blame 
   -- the coordinator goes on working
   work : IsAtWork at [] u
   work =
-      work_cut None e [] passed (due_without e req) u (λ (r : ReqId). false) t ready.passing.work (debts_gone e req passed same off to_go.on ready.passing.work.debts) stands ties asking calm
+      let w = ready.passing.work in
+      work_wanting None e [] passed (due_without e req) u (λ (r : ReqId). false) wants e.ran w.own w.worker w.numbered w.sole (debts_gone e req passed same off to_go.on w.debts) stands ties asking calm
 
   pub loose_then : IsLoose (gone_on e req) []
-  loose_then = loose_gone e req passed same off to_go.on numbered its_what cut_for.loose
+  loose_then =
+      loose_wanting (cut e [] passed (due_without e req)) wants e.ran (loose_gone e req passed same off to_go.on numbered its_what cut_for.loose)
     where
       its_what : (x : Asked) → request_of log req ≡ Some x → is_traversal x.what ≡ true
       its_what x found_ =
@@ -392,6 +414,17 @@ module _ (e : InEvent) (loads : List ReqId) (t : Tables) (queue : Queue) (blame 
       by_number true one = ap (λ (x : ReqId). check_of x (ended req t.checks)) (req_same r req one) ∙ check_ended req t.checks
       by_number false apart = others_ended req t.checks r apart ∙ cut_for.there r none
 
+  -- whose check waits still had one that waited
+  waits_before : (r : ReqId) → is_waiting (ended req t.checks) r ≡ true → is_waiting t.checks r ≡ true
+  waits_before r waits_ = by_number (r.0 == req.0) refl
+    where
+      by_number : (b : Bool) → (r.0 == req.0) ≡ b → is_waiting t.checks r ≡ true
+      by_number true one =
+          let none : is_waiting (ended req t.checks) r ≡ false = ap (λ (x : ReqId). is_waiting (ended req t.checks) x) (req_same r req one) ∙ ap waits_by (check_ended req t.checks) in
+          let never : true ≡ false = sym waits_ ∙ none in
+          absurd cc
+      by_number false apart = sym (ap waits_by (others_ended req t.checks r apart)) ∙ waits_
+
   pub begins_then : BeginsAsked (gone_on e req) (ended req t.checks)
   begins_then =
       record {
@@ -399,7 +432,7 @@ module _ (e : InEvent) (loads : List ReqId) (t : Tables) (queue : Queue) (blame 
         calm = calm;
         notes = stands.notes;
         unanswered = log_same NoneAnsweredEarly cut_for.unanswered;
-        opens = log_same (λ (x : Seen). (r : ReqId) (y : Asked) → request_of x r ≡ Some y → all_asked x y ≡ false → WasOpen e.start r ⊎ (are_unheard y.asks ≡ true)) cut_for.opens;
+        opens = log_same (λ (x : Seen). (r : ReqId) (y : Asked) → request_of x r ≡ Some y → is_waiting (ended req t.checks) r ≡ true → WasOpen e.start r ⊎ (are_unheard y.asks ≡ true)) (λ r y found_ waits_. cut_for.opens r y found_ (waits_before r waits_));
         there = log_same (λ (x : Seen). (r : ReqId) → request_of x r ≡ None → check_of r (ended req t.checks) ≡ None) nobody;
         finished = log_same (λ (x : Seen). x.just_finished ≡ None) cut_for.finished;
       }

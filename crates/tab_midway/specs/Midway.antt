@@ -4,14 +4,15 @@ use Rattle.asking_facts.specs.Prompting.{NoneAnsweredEarly}
 use Rattle.asking_facts.specs.Standing.{StandsAsked}
 use Rattle.check_facts.specs.Prompting.{todo_of}
 use Rattle.checking_facts.specs.Checks.{just}
-use Rattle.log_model.specs.Places.{all_asked, has_passed, is_traversal, is_under_way}
+use Rattle.log_model.specs.Checks.{due_prompt}
+use Rattle.log_model.specs.Places.{has_passed, is_traversal, is_under_way}
 use Rattle.log_model.specs.Seen.{Asked, request_of}
 use Rattle.log_model.specs.declared.job.Why.{Why}
 use Rattle.log_model.specs.declared.job.Why.TheVariants as whys
 use Rattle.move_queue.specs.Queue.{Queue}
 use Rattle.row_facts.specs.Owed.Owed.{IsLoose}
 use Rattle.seen_facts.specs.LoadEnds.Standing.{LoadsStand}
-use Rattle.seen_laws.specs.InEvent.{InEvent, cut, log_of, now_of}
+use Rattle.seen_laws.specs.InEvent.{InEvent, cut, log_of, now_of, running}
 use Rattle.std.specs.Prelude.{List, None, Some, [], false, true, ◌≡◌, ◌⊎◌}
 use Rattle.tab_doors.specs.Working.{IsToCome, MayDiscardIn}
 use Rattle.tab_doors.specs.declared.tables.Tables.{Tables}
@@ -23,13 +24,14 @@ use Rattle.tab_ids.specs.declared.Step.{Step}
 use Rattle.tab_midway.specs.Owing.{due_without}
 use Rattle.tab_passed.specs.Passing.{without}
 use Rattle.tab_prompts.specs.Asking.{BeginsAsked, WasOpen, are_unheard}
+use Rattle.tab_prompts.specs.Prompts.{is_waiting}
 use Rattle.tab_settles.specs.PassedOn.{InPass}
 use Rattle.tab_settles.specs.Settling.{IsReady, IsReadyIn, MakesServe, OrdersAreSound}
 use Rattle.unload_check.specs.Checks.{OpenCheck, check_of}
 
 -- ---- before
 
--- behind the event's cut, where nothing more was put out: no traversal runs, and a pass may follow that sweeps; ongoing loads stand, the tab is calm, who is awake has an entry, and nothing is owed that later rows could undo; what is known of its checks, but that this traversal has passed; orders on their way are for what they may be
+-- behind the event's cut, where nothing more was put out, and a run of discarded documents may last of which the table wasn't told: no traversal runs, and a pass may follow that sweeps; ongoing loads stand, the tab is calm, who is awake has an entry, and nothing is owed that later rows could undo; what is known of its checks, but that this traversal has passed; orders on their way are for what they may be
 pub record IsCutFor (p : InPass) (t : Tables) (queue : Queue) (blame : List (StateId × ReqId)) (cause : Why) (req : ReqId) : Type 0 where
   pub idle : t.running ≡ None
   pub ready : IsReadyIn true p [] t queue blame cause
@@ -37,16 +39,16 @@ pub record IsCutFor (p : InPass) (t : Tables) (queue : Queue) (blame : List (Sta
   pub calm : IsCalm (now_of p.event [])
   pub rows_ : AreAwakeWithRows (now_of p.event [])
   pub loose : IsLoose p.event []
-  pub stands : StandsAsked (IsToCome None p.event []) (just req) p.event [] (record { checks = t.checks; run = [] })
-  -- no request has an answer of the user that has no prompt; one with an open question had one as the event began, or no answer of it was delivered; there is no check without a request; and no order was just finished
+  pub stands : StandsAsked (IsToCome None p.event []) (just req) p.event [] (record { checks = t.checks; run = p.event.ran })
+  -- no request has an answer of the user that has no prompt; one whose check waits had an open question as the event began, or no answer of it was delivered; there is no check without a request; and no order was just finished
   pub unanswered : NoneAnsweredEarly (log_of p.event [])
-  pub opens : (r : ReqId) (q : Asked) → request_of (log_of p.event []) r ≡ Some q → all_asked (log_of p.event []) q ≡ false → WasOpen p.event.start r ⊎ (are_unheard q.asks ≡ true)
+  pub opens : (r : ReqId) (q : Asked) → request_of (log_of p.event []) r ≡ Some q → is_waiting t.checks r ≡ true → WasOpen p.event.start r ⊎ (are_unheard q.asks ≡ true)
   pub there : (r : ReqId) → request_of (log_of p.event []) r ≡ None → check_of r t.checks ≡ None
   pub finished : (log_of p.event []).just_finished ≡ None
   pub makes : MakesServe (now_of p.event [])
   pub sound : OrdersAreSound (now_of p.event [])
 
--- the traversal is under way with this goal, is in its check, has passed it, and the table notes no prompt for it
+-- the traversal is under way with this goal, is in its check, has passed it, no prompt is due, and the table notes none for it
 pub record IsToGoOn (e : InEvent) (checks : List (ReqId × OpenCheck)) (req : ReqId) (q : Asked) (goal : Step) : Type 0 where
   pub at : request_of (log_of e []) req ≡ Some q
   pub goes : is_traversal q.what ≡ true
@@ -54,13 +56,14 @@ pub record IsToGoOn (e : InEvent) (checks : List (ReqId × OpenCheck)) (req : Re
   pub to : q.goal ≡ Some goal
   pub on : e.checking req ≡ true
   pub passed : has_passed (log_of e []) q ≡ true
+  pub undue : due_prompt (log_of e []) q ≡ None
   pub unnoted : todo_of checks req ≡ None
 
 -- ---- after
 
--- the event cut there, with no rows more, and the traversal not in its check any more
+-- the event cut there, with no rows more, and the traversal not in its check any more; the run of discarded documents that lasts goes on
 abbrev pub gone_on : InEvent → ReqId → InEvent
-gone_on e req = cut e [] (without e.checking req) (due_without e req)
+gone_on e req = running (cut e [] (without e.checking req) (due_without e req)) e.ran
 
 -- and the pass in it
 abbrev pub pass_on : InPass → ReqId → InPass

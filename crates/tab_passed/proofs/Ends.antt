@@ -30,6 +30,6 @@ module _ (e : InEvent) (loads : List ReqId) (u : Tables) (queue : Queue) (blame 
   past_sound = put_sound e [] out at.passing.work.goes put past.sound
 
   -- no turn is due, each check that is settled has its prompt up, and the rows are as they were wanted: the coordinator stands for what the log would have come to, with no traversal in its check
-  pub past_acts : IsAllTied (log_of e out) (told_all t.checks out) → EndAsWanted e out → IsNoneDue (now_of e out) t.running left.waiting → HasActed (record { loads = loads; holds = false }) e out (record t { checks = told_all t.checks out }) left noted
+  pub past_acts : IsAllTied (log_of e out) (told_all e.ran t.checks out) → EndAsWanted e out → IsNoneDue (now_of e out) t.running left.waiting → HasActed (record { loads = loads; holds = false }) e out (record t { checks = told_all e.ran t.checks out }) left noted
   past_acts settled wanted due =
       acted (record { event = e; loads = loads; hand = [] }) out t left noted cause false (λ never. absurd cc) at past_makes past_sound past_coord (λ pass. past.own.lasts.shows) (λ pass. past.own.lasts.known) settled wanted (λ free. due) (past.own.takes (later_of e out))

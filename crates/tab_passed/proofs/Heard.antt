@@ -9,10 +9,11 @@ use Rattle.check_facts.proofs.Hearings.{answered, requests_are}
 use Rattle.check_facts.specs.Checking.{AnswerIs, AreOneEach, is_checking, is_said, open_check}
 use Rattle.check_facts.specs.Prompting.{prompt_of, todo_of}
 use Rattle.checking_facts.proofs.Nobody.{pass_cut, pass_wanting}
+use Rattle.checking_facts.specs.Prompts.{AreAskedDuly}
 use Rattle.log_model.specs.Checks.{due_prompt, is_checked}
 use Rattle.log_model.specs.Places.{all_asked, has_passed, is_gone, is_settled_asking, is_under_way}
 use Rattle.log_model.specs.Queue.{is_step_under_way}
-use Rattle.log_model.specs.Seen.{Asked, Asking, Seen, desk_of}
+use Rattle.log_model.specs.Seen.{Asked, Asking, Seen, desk_of, request_of}
 use Rattle.log_model.specs.declared.handler.Verdict.{Verdict}
 use Rattle.log_model.specs.declared.job.Job.{Job}
 use Rattle.log_model.specs.declared.row_kind.Actor.TheVariants as actors
@@ -23,7 +24,7 @@ use Rattle.seen_facts.specs.Asked.Asking.{IsAskedPlainly}
 use Rattle.seen_facts.specs.Desk.Own.{AreDesksIn}
 use Rattle.seen_facts.specs.Each.Runs.{EachAsked}
 use Rattle.seen_laws.proofs.InEvents.{now_is}
-use Rattle.seen_laws.specs.InEvent.{InEvent, cut}
+use Rattle.seen_laws.specs.InEvent.{InEvent, OwesNothing, cut, log_of}
 use Rattle.seen_laws.specs.Unasked.{is_question, unasked}
 use Rattle.std.proofs.Common.{Bool, List, None, Option, Some, [], ap, cond, false, not, refl, subst, sym, true, ◌&&◌, ◌∙◌, ◌≡◌}
 use Rattle.std.proofs.lemmas.Bool.{and_parts}
@@ -54,7 +55,7 @@ open_waits : (gone : DocId → Bool) (asks : List Asking) → list_all is_said a
 open_waits gone asks said still =
     ap (λ (b : Bool). let c : Check = cond b (decided (prompting_doc (open_check gone asks).asked) None) checks.Waiting in c) (settled_same gone asks said ∙ still)
 
-module _ (was : ReqId → Bool) (e : InEvent) (es : List (ReqId × OpenCheck)) (asks : ChecksStand was e.start es) {table : List Load} (lasts : LastsInLog was table e.start) (each : EachAsked IsAskedPlainly (unasked was e.start).requests) (desks : AreDesksIn (unasked was e.start)) (uncut : e.before ≡ []) (undue : (end : Seen) → e.due end ≡ true) (req : ReqId) (q : Asked) (goal : Step) (pass : IsToPass was e req q goal) (proc : ProcId) (job : Job) (verdict : Verdict) (is : IsAnswer e proc job verdict req) where
+module _ (was : ReqId → Bool) (e : InEvent) (es : List (ReqId × OpenCheck)) (asks : ChecksStand was e.start es) {table : List Load} (lasts : LastsInLog was table e.start) (each : EachAsked IsAskedPlainly (unasked was e.start).requests) (desks : AreDesksIn (unasked was e.start)) (uncut : e.before ≡ []) (undue : OwesNothing e) (req : ReqId) (q : Asked) (goal : Step) (pass : IsToPass was e req q goal) (proc : ProcId) (job : Job) (verdict : Verdict) (is : IsAnswer e proc job verdict req) where
   -- the event
   abbrev x : InEvent
   x = plain e actors.Coord (rows.Delivered proc)
@@ -147,7 +148,7 @@ module _ (was : ReqId → Bool) (e : InEvent) (es : List (ReqId × OpenCheck)) (
       plainly =
           record {
             uncut = refl;
-            undue = undue;
+            undue = record { due = undue.due; ran = undue.ran };
             numbered = lasts.checks.numbered;
             led = refl;
             worker = tt;
@@ -155,8 +156,8 @@ module _ (was : ReqId → Bool) (e : InEvent) (es : List (ReqId × OpenCheck)) (
             lasts = heard_lasts;
             calm = on.go_none e.header e.start e.event was proc job verdict None tells.first req tells.why es asks.has q pass.at in_check open_ one says asks.open_ asks.within settled none e.checking pass.same pass.off asks.calm;
             free = no_steps was e.checking e.start lasts.checks each req q pass.at under pass.goes pass.on pass.off pass.same t reads;
-            asked = on.go_duly e.header e.start e.event was proc job verdict None tells.first req tells.why es asks.has q pass.at in_check open_ one says asks.open_ asks.within settled none e.checking pass.same;
-            lawful = pass_wanting (IsToCome None x []) (cut (record (opens.e e.header e.start e.event was proc job verdict req tells es asks lasts.known q pass.at in_check open_) { checking = e.checking }) [] e.checking e.due) (todo_of (ended req told)) [] e.wants (pass_cut (IsToCome None x []) (record (opens.e e.header e.start e.event was proc job verdict req tells es asks lasts.known q pass.at in_check open_) { checking = e.checking }) (todo_of (ended req told)) [] e.checking e.due (on.go_pass e.header e.start e.event was proc job verdict None tells.first req tells.why es asks.has q pass.at in_check open_ one says asks.open_ asks.within settled none e.checking pass.same (IsToCome None x [])));
+            asked = subst (λ (docs : List DocId). AreAskedDuly e.checking e.start (log_of x []) (record { checks = ended req told; run = docs })) (sym undue.ran) (on.go_duly e.header e.start e.event was proc job verdict None tells.first req tells.why es asks.has q pass.at in_check open_ one says asks.open_ asks.within settled none e.checking pass.same);
+            lawful = pass_wanting (IsToCome None x []) (cut (record (opens.e e.header e.start e.event was proc job verdict req tells es asks lasts.known q pass.at in_check open_) { checking = e.checking }) [] e.checking e.due) (todo_of (ended req told)) [] e.wants e.ran (pass_cut (IsToCome None x []) (record (opens.e e.header e.start e.event was proc job verdict req tells es asks lasts.known q pass.at in_check open_) { checking = e.checking }) (todo_of (ended req told)) [] e.checking e.due (on.go_pass e.header e.start e.event was proc job verdict None tells.first req tells.why es asks.has q pass.at in_check open_ one says asks.open_ asks.within settled none e.checking pass.same (IsToCome None x [])));
             takes = λ later. opens.takes_none e.header e.start e.event was proc job verdict req tells es asks lasts.known q pass.at in_check open_ later;
           }
 

@@ -20,7 +20,7 @@ use Rattle.seen_facts.proofs.Request.Readers.{on_read}
 use Rattle.seen_facts.specs.Asked.Asking.{IsAskedPlainly}
 use Rattle.seen_facts.specs.Each.Runs.{EachAsked}
 use Rattle.seen_laws.proofs.InEvents.{now_is}
-use Rattle.seen_laws.specs.InEvent.{InEvent, row_of}
+use Rattle.seen_laws.specs.InEvent.{InEvent, OwesNothing, log_of, row_of}
 use Rattle.seen_laws.specs.Unasked.{unasked}
 use Rattle.std.proofs.Common.{Bool, List, None, Some, [], false, not, refl, subst, sym, true, ◌&&◌, ◌||◌, ◌∙◌, ◌≡◌}
 use Rattle.std.proofs.lemmas.Bool.{and_parts}
@@ -30,6 +30,7 @@ use Rattle.tab_answers.proofs.Lasts.{answered_lasts}
 use Rattle.tab_answers.proofs.Stays.{prompted}
 use Rattle.tab_answers.proofs.Stood.{answered_quiet}
 use Rattle.tab_doors.specs.Working.{IsToCome}
+use Rattle.tab_ids.specs.declared.DocId.{DocId}
 use Rattle.tab_ids.specs.declared.ReqId.{ReqId}
 use Rattle.tab_ids.specs.declared.Step.{Step}
 use Rattle.tab_passed.proofs.Free.{no_steps}
@@ -38,7 +39,7 @@ use Rattle.tab_stands.specs.Checked.{ChecksStand}
 use Rattle.tab_stands.specs.Standing.{LastsInLog}
 use Rattle.unload_check.specs.Checks.{OpenCheck, ended}
 
-module _ (was : ReqId → Bool) (e : InEvent) (es : List (ReqId × OpenCheck)) (asks : ChecksStand was e.start es) {table : List Load} (lasts : LastsInLog was table e.start) (each : EachAsked IsAskedPlainly (unasked was e.start).requests) (uncut : e.before ≡ []) (undue : (end : Seen) → e.due end ≡ true) (req : ReqId) (q : Asked) (goal : Step) (pass : IsToPass was e req q goal) (by_user : e.actor ≡ actors.Ui) (own : e.own ≡ rows.Answered req false) (awaits : awaits_answer q ≡ true) where
+module _ (was : ReqId → Bool) (e : InEvent) (es : List (ReqId × OpenCheck)) (asks : ChecksStand was e.start es) {table : List Load} (lasts : LastsInLog was table e.start) (each : EachAsked IsAskedPlainly (unasked was e.start).requests) (uncut : e.before ≡ []) (undue : OwesNothing e) (req : ReqId) (q : Asked) (goal : Step) (pass : IsToPass was e req q goal) (by_user : e.actor ≡ actors.Ui) (own : e.own ≡ rows.Answered req false) (awaits : awaits_answer q ≡ true) where
   -- the event
   abbrev x : InEvent
   x = plain e actors.Ui (rows.Answered req false)
@@ -100,7 +101,7 @@ module _ (was : ReqId → Bool) (e : InEvent) (es : List (ReqId × OpenCheck)) (
   plainly =
       record {
         uncut = refl;
-        undue = undue;
+        undue = record { due = undue.due; ran = undue.ran };
         numbered = lasts.checks.numbered;
         led = refl;
         worker = tt;
@@ -108,8 +109,8 @@ module _ (was : ReqId → Bool) (e : InEvent) (es : List (ReqId × OpenCheck)) (
         lasts = left_lasts;
         calm = left_none was e.start e.event req pass.on q pass.at e.checking pass.same pass.off asks.calm;
         free = no_steps was e.checking e.start lasts.checks each req q pass.at under pass.goes pass.on pass.off pass.same t (on_read is_step_under_way e.start.requests req (λ (y : Asked). record y { answered = Some false }) (λ y. refl));
-        asked = left_duly was e.start e.event req false es began q pass.at up numbered e.checking pass.same refl;
-        lawful = answered_pass (IsToCome None x []) x req false q (noted_by (ended req es) []) refl refl refl pass.at awaits (λ later rest. leave_comes x req later);
+        asked = subst (λ (docs : List DocId). AreAskedDuly e.checking e.start (log_of x []) (record { checks = ended req es; run = docs })) (sym undue.ran) (left_duly was e.start e.event req false es began q pass.at up numbered e.checking pass.same refl);
+        lawful = answered_pass (IsToCome None x []) x req false q (noted_by e.ran (ended req es) []) refl refl refl pass.at awaits (λ later rest. leave_comes x req later);
         takes = λ later. refl;
       }
 

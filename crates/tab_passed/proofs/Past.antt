@@ -8,7 +8,7 @@ use Rattle.log_model.specs.declared.row_kind.Actor.TheVariants as actors
 use Rattle.log_model.specs.declared.row_kind.RowKind.TheVariants as rows
 use Rattle.move_queue.specs.Queue.{Queue}
 use Rattle.move_queue.specs.declared.queue_step.QueueStep.{QueueStep}
-use Rattle.seen_laws.specs.InEvent.{InEvent}
+use Rattle.seen_laws.specs.InEvent.{InEvent, OwesNothing}
 use Rattle.seen_laws.specs.Unasked.{unasked}
 use Rattle.std.proofs.Common.{Bool, List, None, Option, Some, [], false, not, refl, true, ℤ, ◌&&◌, ◌≡◌}
 use Rattle.std.proofs.lemmas.Bool.{and_parts}
@@ -46,7 +46,7 @@ under_check : (s : Seen) (q : Asked) → is_checking s q ≡ true → is_under_w
 under_check s q in_check =
     (and_parts (is_checked q) (is_under_way q) (and_parts (is_checked q && is_under_way q) (not (has_passed s q)) in_check).0).1
 
-module _ (was : ReqId → Bool) (e : InEvent) (t : Tables) (queue : Queue) (blame : List (StateId × ReqId)) {check : InCheck} (stands : StandsFor check (unasked was e.start) t queue blame) (lasts : LastsInLog was t.asking e.start) (asks : ChecksStand was e.start t.checks) (holds : check.holds ≡ true) (room : HasRoomFor e.start) (header : t.kept.keep ≡ e.header.keep) (uncut : e.before ≡ []) (undue : (end : Seen) → e.due end ≡ true) (req : ReqId) (q : Asked) (goal : Step) (pass : IsToPass was e req q goal) (delta : ℤ) (rest : List QueueStep) (front : IsInFront queue req delta rest) where
+module _ (was : ReqId → Bool) (e : InEvent) (t : Tables) (queue : Queue) (blame : List (StateId × ReqId)) {check : InCheck} (stands : StandsFor check (unasked was e.start) t queue blame) (lasts : LastsInLog was t.asking e.start) (asks : ChecksStand was e.start t.checks) (holds : check.holds ≡ true) (room : HasRoomFor e.start) (header : t.kept.keep ≡ e.header.keep) (uncut : e.before ≡ []) (undue : OwesNothing e) (req : ReqId) (q : Asked) (goal : Step) (pass : IsToPass was e req q goal) (delta : ℤ) (rest : List QueueStep) (front : IsInFront queue req delta rest) where
   -- the row was logged by which it passes, and it is under way
   passes : is_under_way q ≡ true → (table : List (ReqId × OpenCheck)) → HasPassedBy e table t.asking → IsPastCheck e check.loads (passed_tables t req goal table) (record queue { waiting = rest }) blame req
   passes under table own =

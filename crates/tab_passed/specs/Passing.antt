@@ -11,7 +11,7 @@ use Rattle.log_model.specs.declared.row_kind.LogRow.{LogRow}
 use Rattle.move_queue.specs.Queue.{Queue}
 use Rattle.move_queue.specs.declared.queue_step.QueueStep.{QueueStep}
 use Rattle.move_queue.specs.declared.queue_step.QueueStep.TheVariants.{Traverse}
-use Rattle.seen_laws.specs.InEvent.{InEvent, IsTakenIn, log_of, now_of}
+use Rattle.seen_laws.specs.InEvent.{InEvent, IsTakenIn, OwesNothing, log_of, now_of}
 use Rattle.seen_laws.specs.Sending.{leads}
 use Rattle.std.specs.Prelude.{Bool, List, None, Some, [], false, not, true, ℤ, ◌&&◌, ◌==◌, ◌∷◌, ◌≡◌}
 use Rattle.tab_answers.proofs.Stood.{quieted}
@@ -51,7 +51,7 @@ start_quiet e = quieted (seen_start e) e.event (has_stood_now (seen_start e).has
 -- nothing was put out before, so nothing is owed; as the event began requests had their numbers; a row that may stand first was logged, which isn't seen in the log without questions; what lasts of the log itself lasts, no traversal in its check has passed, no step under way is in its check, and a table with these checks stands for that; and the row passes, if what comes later has what it asks, which is nothing that takes a report up
 pub record HasPassedBy (e : InEvent) (checks : List (ReqId × OpenCheck)) (table : List Load) : Type 0 where
   pub uncut : e.before ≡ []
-  pub undue : (end : Seen) → e.due end ≡ true
+  pub undue : OwesNothing e
   pub numbered : AreNumbered e.start
   pub led : leads e.own ≡ true
   pub worker : IsWorker e.actor
@@ -59,7 +59,7 @@ pub record HasPassedBy (e : InEvent) (checks : List (ReqId × OpenCheck)) (table
   pub lasts : LastsInLog e.checking table (log_of e [])
   pub calm : NonePasses e.checking (log_of e [])
   pub free : NoStepChecks e.checking (log_of e [])
-  pub asked : AreAskedDuly e.checking e.start (log_of e []) (told_by checks [])
+  pub asked : AreAskedDuly e.checking e.start (log_of e []) (told_by e.ran checks [])
   pub lawful : AreLawfulFor None e checks []
   pub takes : (later : List LogRow) → IsTakenIn e later
 

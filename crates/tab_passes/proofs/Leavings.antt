@@ -83,7 +83,7 @@ begun_work e out t doc left states work is =
       asking = work.asking;
       kept = is ∙ ap (λ (l : List StateId). with_left left t.kept.keep l) work.kept;
       asked = work.asked;
-      lawful = begin_move e (noted_by t.checks out) out (record { doc = doc; left = left }) work.lawful;
+      lawful = begin_move e (noted_by e.ran t.checks out) out (record { doc = doc; left = left }) work.lawful;
     }
 
 pub begun_leaving : (p : InPass) (out : List RowKind) (t : Tables) (doc : DocId) (left : Option StateId) (states : List StateId) → IsPassing p out t → states ≡ with_left left t.kept.keep t.kept.states → IsLeaving p (Some (record { doc = doc; left = left })) [] out (record t { kept = record t.kept { states = states } })

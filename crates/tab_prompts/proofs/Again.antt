@@ -4,10 +4,10 @@ use Rattle.asking_facts.proofs.Unanswered.{unanswered_row}
 use Rattle.asking_facts.proofs.Waiting.{asks_of, plain_asks}
 use Rattle.asking_facts.specs.Prompting.{AnswersPrompt, NoneAnsweredEarly}
 use Rattle.check_facts.proofs.Gones.{row_gone}
-use Rattle.check_facts.proofs.Rows.{applied_plain, dropped_plain, plain_of, refused_plain, sent_plain, settled_more, started_plain}
+use Rattle.check_facts.proofs.Rows.{applied_plain, dropped_plain, plain_of, refused_plain, sent_plain, started_plain}
 use Rattle.check_facts.specs.Rows as checked
 use Rattle.log_model.specs.After.{after}
-use Rattle.log_model.specs.Places.{all_asked, is_gone, is_settled_asking, is_traversal}
+use Rattle.log_model.specs.Places.{is_gone, is_traversal}
 use Rattle.log_model.specs.Seen.{Asked, Asking, Seen, request_of}
 use Rattle.log_model.specs.declared.row_kind.RowKind.TheVariants as rows
 use Rattle.log_model.specs.declared.row_kind.RowKind.{RowKind}
@@ -17,8 +17,7 @@ use Rattle.seen_facts.proofs.Request.Readers.{SameReads, on_read, reads_then}
 use Rattle.seen_facts.specs.Hang.Members.{Has}
 use Rattle.seen_laws.proofs.Cuts.{log_cut}
 use Rattle.seen_laws.specs.InEvent.{InEvent, first_of, is_seen, log_of, row_of}
-use Rattle.std.proofs.Common.{Bool, List, None, Option, Some, [], ap, false, inl, inr, refl, subst, sym, true, ◌++◌, ◌∙◌, ◌≡◌, ◌⊎◌}
-use Rattle.std.specs.List.{list_all}
+use Rattle.std.proofs.Common.{Bool, List, None, Option, Some, [], false, inl, inr, refl, subst, sym, true, ◌++◌, ◌∙◌, ◌≡◌, ◌⊎◌}
 use Rattle.tab_doors.specs.Keeping.{Move}
 use Rattle.tab_doors.specs.Working.{IsAtWorkIn}
 use Rattle.tab_doors.specs.declared.tables.Tables.{Tables}
@@ -28,6 +27,7 @@ use Rattle.tab_prompts.proofs.Dues.{there_rows}
 use Rattle.tab_prompts.proofs.Settled.{IsNotedFor, cut_calm, cut_stands, prompts, then_, then_told}
 use Rattle.tab_prompts.proofs.Since.{finished_since, no_question, rows_keep}
 use Rattle.tab_prompts.proofs.Tables.{GoesAt, goes_told}
+use Rattle.tab_prompts.proofs.Waits.{waited_before}
 use Rattle.tab_prompts.proofs.Works.{prompts_are, prompts_keep}
 use Rattle.tab_prompts.specs.Asking.{AreAllWaiting, AreApart, AreUnderWay, BeginsAsked, BeginsMost, WasOpen, are_unheard}
 use Rattle.tab_prompts.specs.Prompts.{is_settled_in, is_waiting}
@@ -56,7 +56,7 @@ module _ (first : Seen) (e : InEvent) where
   plainly : (s : Seen) (kind : RowKind) → SameReads plain_of s.requests (after s (row_of e kind)).requests → SameReads asks_of s.requests (after s (row_of e kind)).requests
   plainly s kind same = plain_asks s (after s (row_of e kind)) same
 
-  since_row : (s : Seen) (kind : RowKind) → is_seen e.checking kind ≡ true → EndsOff e.checking kind → Since first s → Since first (after s (row_of e kind))
+  pub since_row : (s : Seen) (kind : RowKind) → is_seen e.checking kind ≡ true → EndsOff e.checking kind → Since first s → Since first (after s (row_of e kind))
   since_row s (rows.Sent job) seen ends =
       since_plain s (rows.Sent job) tt tt (plainly s (rows.Sent job) (sent_plain s e.event e.actor job (no_question job.task seen)))
   since_row s (rows.Started req goal) seen ends =
@@ -98,22 +98,13 @@ module _ {sweeps : Bool} (move : Option Move) (e : InEvent) (out : List RowKind)
   at_cut : (P : Seen → Type 0) → P last → P (log_of cut_then [])
   at_cut P is = subst P (sym (log_cut e (out ++ asking) e.checking (owes_seen e out))) is
 
-  -- a request with an open question had one, or no answer was heard
-  opens : (req : ReqId) (q : Asked) → request_of last req ≡ Some q → all_asked last q ≡ false → WasOpen e.start req ⊎ (are_unheard q.asks ≡ true)
-  opens req q at open_ =
-      by_opens (begins.opens req p.0 p.1 open_then)
+  -- one whose check waits had an open question as the event began, or no answer was heard
+  opens : (req : ReqId) (q : Asked) → request_of last req ≡ Some q → is_waiting told_then req ≡ true → WasOpen e.start req ⊎ (are_unheard q.asks ≡ true)
+  opens req q at waiting =
+      by_opens (begins.opens req p.0 p.1 (waited_before e.ran t.checks req out waiting))
     where
       p : (p : Asked) × (request_of first req ≡ Some p) × (asks_of p ≡ asks_of q)
       p = was_asked asks_of first.requests last.requests since.asks req q at
-
-      open_then : all_asked first p.0 ≡ false
-      open_then = by_all (all_asked first p.0) refl
-        where
-          by_all : (b : Bool) → all_asked first p.0 ≡ b → b ≡ false
-          by_all false is = refl
-          by_all true is =
-              let all : list_all (is_settled_asking (is_gone last)) (p.0).asks ≡ true = settled_more first last (p.0).asks since.gone is in
-              never (sym all ∙ ap (λ (l : List Asking). list_all (is_settled_asking (is_gone last)) l) p.2 ∙ open_)
 
       by_opens : WasOpen e.start req ⊎ (are_unheard (p.0).asks ≡ true) → WasOpen e.start req ⊎ (are_unheard q.asks ≡ true)
       by_opens (inl is) = inl is
@@ -122,7 +113,7 @@ module _ {sweeps : Bool} (move : Option Move) (e : InEvent) (out : List RowKind)
   -- there is no check without a request
   nobody : (req : ReqId) → request_of last req ≡ None → check_of req told_then ≡ None
   nobody req none =
-      subst (λ (o : Option OpenCheck). GoesAt o (check_of req told_then)) (begins.there req (by_found (request_of first req) refl)) (goes_told t.checks req out)
+      subst (λ (o : Option OpenCheck). GoesAt o (check_of req told_then)) (begins.there req (by_found (request_of first req) refl)) (goes_told e.ran t.checks req out)
     where
       by_found : (o : Option Asked) → request_of first req ≡ o → request_of first req ≡ None
       by_found None at = at
@@ -143,7 +134,7 @@ module _ {sweeps : Bool} (move : Option Move) (e : InEvent) (out : List RowKind)
         asked = stands.asked;
         notes = stands.notes;
         unanswered = at_cut NoneAnsweredEarly since.unanswered;
-        opens = at_cut (λ s. (req : ReqId) (q : Asked) → request_of s req ≡ Some q → all_asked s q ≡ false → WasOpen e.start req ⊎ (are_unheard q.asks ≡ true)) opens;
+        opens = at_cut (λ s. (req : ReqId) (q : Asked) → request_of s req ≡ Some q → is_waiting told_then req ≡ true → WasOpen e.start req ⊎ (are_unheard q.asks ≡ true)) opens;
         there = at_cut (λ s. (req : ReqId) → request_of s req ≡ None → check_of req told_then ≡ None) nobody;
         finished = at_cut (λ s. s.just_finished ≡ None) finished_last;
       }

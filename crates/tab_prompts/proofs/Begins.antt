@@ -30,8 +30,10 @@ use Rattle.seen_laws.specs.Sending.{leads}
 use Rattle.std.proofs.Common.{Bool, List, None, Option, Some, [], ap, false, inl, map, refl, slice_get, subst, sym, true, ◌&&◌, ◌==◌, ◌∙◌, ◌∷◌, ◌≡◌, ◌⊎◌}
 use Rattle.std.specs.List.{list_all}
 use Rattle.std.specs.Prelude.{if◌then◌else◌}
+use Rattle.tab_ids.specs.declared.DocId.{DocId}
 use Rattle.tab_ids.specs.declared.JobId.{JobId}
 use Rattle.tab_ids.specs.declared.ReqId.{ReqId}
+use Rattle.tab_prompts.proofs.Waits.{waits_open}
 use Rattle.tab_prompts.specs.Asking.{BeginsAsked, WasOpen, are_unheard}
 use Rattle.unasked_dues.specs.Checking.{NonePasses}
 use Rattle.unload_check.specs.Checks.{OpenCheck, check_of}
@@ -108,7 +110,7 @@ own_finished e s _ led = absurd (let no : false ≡ true = led in cc)
 
 -- ---- the event begins
 
-module _ (e : InEvent) (checks : List (ReqId × OpenCheck)) (uncut : e.before ≡ []) (led : leads e.own ≡ true) (next : NumbersNext e.start e.own) (asked : AreAskedDuly e.checking e.start (log_of e []) (record { checks = checks; run = [] })) where
+module _ (e : InEvent) (checks : List (ReqId × OpenCheck)) (uncut : e.before ≡ []) (led : leads e.own ≡ true) (next : NumbersNext e.start e.own) (unran : e.ran ≡ []) (asked : AreAskedDuly e.checking e.start (log_of e []) (record { checks = checks; run = e.ran })) where
   abbrev first : Seen
   first = after e.start (row_of e e.own)
 
@@ -162,11 +164,15 @@ module _ (e : InEvent) (checks : List (ReqId × OpenCheck)) (uncut : e.before �
           calm = calm;
           notes = notes;
           unanswered = unanswered;
-          opens = at_first (λ s. (req : ReqId) (q : Asked) → request_of s req ≡ Some q → all_asked s q ≡ false → WasOpen e.start req ⊎ (are_unheard q.asks ≡ true)) (λ req q at open_. inl (opens req q at open_ (had_none req q at open_) (λ had. subst (λ (s : Seen). had_settled s req ≡ true) (uncut_log e uncut) (asked.stays req had))));
+          opens = λ req q at waits. opens_first req q at (waits_open e.checking e.start (log_of e []) checks (subst (λ (docs : List DocId). AreAskedDuly e.checking e.start (log_of e []) (record { checks = checks; run = docs })) unran asked) req q at waits);
           there = at_first (λ s. (req : ReqId) → request_of s req ≡ None → check_of req checks ≡ None) (λ req none. nobody req (before req none));
           finished = at_first (λ s. s.just_finished ≡ None) (own_finished e e.start e.own led);
         }
       where
+        opens_first : (req : ReqId) (q : Asked) → request_of (log_of e []) req ≡ Some q → all_asked (log_of e []) q ≡ false → WasOpen e.start req ⊎ (are_unheard q.asks ≡ true)
+        opens_first =
+            at_first (λ s. (req : ReqId) (q : Asked) → request_of s req ≡ Some q → all_asked s q ≡ false → WasOpen e.start req ⊎ (are_unheard q.asks ≡ true)) (λ req q at open_. inl (opens req q at open_ (had_none req q at open_) (λ had. subst (λ (s : Seen). had_settled s req ≡ true) (uncut_log e uncut) (asked.stays req had))))
+
         before : (req : ReqId) → request_of first req ≡ None → request_of e.start req ≡ None
         before req none = by_found (request_of e.start req) refl
           where

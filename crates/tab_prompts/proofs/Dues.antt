@@ -1,5 +1,6 @@
 -- Of a request that waited as the event began or was cut, is under way still, and for which the told table notes a prompt, the user is to be asked.
 use Rattle.asking_facts.proofs.Started.{rows_on}
+use Rattle.check_facts.proofs.Rows.{Plain}
 use Rattle.check_facts.specs.Checking.{AreTiedAt}
 use Rattle.check_facts.specs.Having.{IsHeld}
 use Rattle.check_facts.specs.Prompting.{has_settled, is_asked, todo_of}
@@ -12,8 +13,7 @@ use Rattle.seen_laws.specs.InEvent.{InEvent, first_of, log_of, row_of}
 use Rattle.std.proofs.Common.{Bool, List, None, Option, Some, [], ap, false, inl, inr, map, refl, subst, sym, true, ◌∙◌, ◌∷◌, ◌≡◌, ◌⊎◌}
 use Rattle.std.proofs.lemmas.Bool.{and_parts}
 use Rattle.std.specs.List.{list_all}
-use Rattle.std.specs.Option.{option_map_or}
-use Rattle.std.specs.Prelude.{is_some, option_map}
+use Rattle.std.specs.Prelude.{is_some}
 use Rattle.tab_doors.specs.Keeping.{Move}
 use Rattle.tab_doors.specs.Working.{IsAtWorkIn}
 use Rattle.tab_doors.specs.declared.tables.Tables.{Tables}
@@ -21,11 +21,11 @@ use Rattle.tab_ids.specs.declared.DocId.{DocId}
 use Rattle.tab_ids.specs.declared.ReqId.{ReqId}
 use Rattle.tab_prompts.proofs.Since.{Course, course_of}
 use Rattle.tab_prompts.proofs.Tables.{wants_in}
-use Rattle.tab_prompts.proofs.Told.{IsNoted, first_open, held_now, heard_wanted, noted, said_now, tied_is, tied_open, tied_settled, told, was}
+use Rattle.tab_prompts.proofs.Told.{IsNoted, WasOpenThen, first_open, held_now, heard_wanted, noted, said_now, tied_settled, told, was}
+use Rattle.tab_prompts.proofs.Waits.{waiting_open}
 use Rattle.tab_prompts.specs.Asking.{AreUnderWay, BeginsAsked, EachIsDue, IsPromptDue, IsUnderWay, WasOpen, are_unheard}
-use Rattle.tab_prompts.specs.Prompts.{is_open, is_waiting}
-use Rattle.unload_check.specs.Checks as table
-use Rattle.unload_check.specs.Checks.{OpenCheck, check_of, is_settled, outcome_of}
+use Rattle.tab_prompts.specs.Prompts.{is_waiting}
+use Rattle.unload_check.specs.Checks.{OpenCheck, is_settled}
 
 some_same : {A : Type 0} {a b : A} → (let o : Option A = Some a in o) ≡ Some b → a ≡ b
 some_same is = cc
@@ -40,28 +40,6 @@ there_rows e h [] req p at = (p, at)
 there_rows e h (kind ∷ out) req p at =
     let next = rows_on h.now (row_of e kind ∷ []) req p at in
     there_rows e (on_row h (row_of e kind)) out req next.q next.at
-
--- ---- who waits
-
-settled_shut : (c : OpenCheck) → is_settled c ≡ true → is_open (outcome_of c) ≡ false
-settled_shut c settled = rw settled (by_decided (table.prompting_doc c.asked) c.stay)
-  where
-    by_decided : (o : Option DocId) (stay : Option Bool) → is_open (table.decided o stay) ≡ false
-    by_decided None stay = refl
-    by_decided (Some doc) None = refl
-    by_decided (Some doc) (Some true) = refl
-    by_decided (Some doc) (Some false) = refl
-
--- its check isn't settled
-pub waiting_open : (es : List (ReqId × OpenCheck)) (req : ReqId) (c : OpenCheck) → check_of req es ≡ Some c → is_waiting es req ≡ true → is_settled c ≡ false
-waiting_open es req c has waits = by_settled (is_settled c) refl
-  where
-    opens : is_open (outcome_of c) ≡ true
-    opens = sym (ap (λ (o : Option OpenCheck). option_map_or is_open (option_map outcome_of o) false) has) ∙ waits
-
-    by_settled : (b : Bool) → is_settled c ≡ b → b ≡ false
-    by_settled false is = refl
-    by_settled true is = never (sym opens ∙ settled_shut c is)
 
 -- ---- the prompt is due
 
@@ -110,20 +88,21 @@ module _ {sweeps : Bool} (move : Option Move) (e : InEvent) (out : List RowKind)
     same : course_of p ≡ course_of q
     same = p_was.2
 
-    -- a question was open
-    tied : AreTiedAt first (Some p) (Some its.c)
-    tied = first_open move e out t work begins req p its.c p_was.1 its.has un
+    -- a question was open, as the run began that lasted then
+    abbrev base : Seen
+    base = begins.asked.run.was
 
-    opened : all_asked first p ≡ false
-    opened = tied_open first p its.c tied un
+    was_then : WasOpenThen e.start first (record { checks = t.checks; run = e.ran }) begins.asked.run p its.c
+    was_then = first_open move e out t work begins req p its.c p_was.1 its.has un
 
     -- so it was as the event began, since an answer was heard
     was_open : WasOpen e.start req
-    was_open = by_opens (begins.opens req p p_was.1 opened)
+    was_open = by_opens (begins.opens req p p_was.1 waits)
       where
         heard : are_unheard p.asks ≡ false
         heard =
-            (heard_wanted (is_gone first) doc p.asks (subst (λ (y : OpenCheck). wants_in doc y.asked ≡ true) (tied_is first p its.c tied opened) its.wants)).1
+            sym (ap (λ (x : Plain). are_unheard x.asks) was_then.same)
+            ∙ (heard_wanted (is_gone base) doc was_then.q.asks (subst (λ (y : OpenCheck). wants_in doc y.asked ≡ true) was_then.is its.wants)).1
 
         by_opens : WasOpen e.start req ⊎ (are_unheard p.asks ≡ true) → WasOpen e.start req
         by_opens (inl is) = is
@@ -139,24 +118,27 @@ module _ {sweeps : Bool} (move : Option Move) (e : InEvent) (out : List RowKind)
             tied_settled now q its.x (subst (λ (o : Option OpenCheck). AreTiedAt now (Some q) o) its.has_now tied_) (said_now move e out t work begins) req still.1 its.settled
 
     has_asks : is_asked p.asks ≡ true
-    has_asks = by_asks p.asks refl
+    has_asks =
+        sym (ap (λ (x : Plain). is_asked x.asks) was_then.same) ∙ by_asks was_then.q.asks refl
       where
-        by_asks : (asks : List Asking) → p.asks ≡ asks → is_asked asks ≡ true
-        by_asks (asking ∷ asks) is = refl
-        by_asks [] is = never (sym (ap (λ (l : List Asking). list_all (is_settled_asking (is_gone first)) l) is) ∙ opened)
+        by_asks : (asks : List Asking) → was_then.q.asks ≡ asks → is_asked was_then.q.asks ≡ true
+        by_asks (asking ∷ asks) is = ap is_asked is
+        by_asks [] is =
+            never (sym (ap (λ (l : List Asking). list_all (is_settled_asking (is_gone base)) l) is) ∙ was_then.open_)
 
     has_all : has_settled now q ≡ true
     has_all = rw (sym (ap (λ (x : Course). is_asked x.asks) same) ∙ has_asks, all_now) refl
 
     -- it had no prompt
     unprompted_then : is_some p.prompted ≡ false
-    unprompted_then = by_prompt (is_some p.prompted) refl
+    unprompted_then =
+        sym (ap (λ (x : Plain). is_some x.prompted) was_then.same) ∙ by_prompt (is_some was_then.q.prompted) refl
       where
-        by_prompt : (b : Bool) → is_some p.prompted ≡ b → b ≡ false
-        by_prompt false is = refl
+        by_prompt : (b : Bool) → is_some was_then.q.prompted ≡ b → is_some was_then.q.prompted ≡ false
+        by_prompt false is = is
         by_prompt true is =
-            let parts = and_parts (is_asked p.asks) (all_asked first p) (begins.asked.prompted req p p_was.1 is) in
-            never (sym parts.1 ∙ opened)
+            let parts = and_parts (is_asked was_then.q.asks) (all_asked base was_then.q) (begins.asked.run.prompted was_then.nr was_then.q was_then.at is) in
+            never (sym parts.1 ∙ was_then.open_)
 
     unprompted : is_some q.prompted ≡ false
     unprompted = sym (ap (λ (x : Course). is_some x.prompted) same) ∙ unprompted_then

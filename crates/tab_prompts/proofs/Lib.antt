@@ -2,6 +2,7 @@ pub mod Lists
 pub mod Since
 pub mod Tables
 pub mod Told
+pub mod Waits
 pub mod Dues
 pub mod Prompted
 pub mod Works
@@ -14,3 +15,5 @@ pub mod Resumed
 pub mod Waited
 pub mod Begins
 pub mod Again
+pub mod Lasting
+pub mod Rested

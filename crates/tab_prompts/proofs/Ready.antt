@@ -59,12 +59,12 @@ steps_prompt checking e s req doc none r q at on =
 
 -- ---- the event is cut behind them
 
-module _ {sweeps : Bool} (p : InPass) (out : List RowKind) (t : Tables) (queue : Queue) (blame : List (StateId × ReqId)) (cause : Why) (ready : IsReadyIn sweeps p out t queue blame cause) (checks : List (ReqId × OpenCheck)) (more : List RowKind) (are : ArePrompts more) (finished : (log_of p.event out).just_finished ≡ None) (test : List LogRow → Bool) where
+module _ {sweeps : Bool} (p : InPass) (out : List RowKind) (t : Tables) (queue : Queue) (passing : IsPassingIn sweeps p out t) (queueing : IsQueueing p out t queue) (checks : List (ReqId × OpenCheck)) (more : List RowKind) (are : ArePrompts more) (finished : (log_of p.event out).just_finished ≡ None) (test : List LogRow → Bool) (ran : List DocId) where
   abbrev e : InEvent
   e = p.event
 
   abbrev pub then_ : InEvent
-  then_ = then_prompted e out more are finished test
+  then_ = then_prompted e out more are finished test ran
 
   abbrev pub pass_then : InPass
   pass_then = record p { event = then_ }
@@ -79,11 +79,11 @@ module _ {sweeps : Bool} (p : InPass) (out : List RowKind) (t : Tables) (queue :
   n = now_of then_ []
 
   -- the log without questions is as it was
-  same : n ≡ s
-  same = same_prompted e out more are finished test
+  pub same : n ≡ s
+  same = same_prompted e out more are finished test ran
 
   -- so is what is known of it
-  over : (P : Seen → Type 0) → P s → P n
+  pub over : (P : Seen → Type 0) → P s → P n
   over P is = subst P (sym same) is
 
   -- ---- the event has the same start, and the same own row
@@ -91,24 +91,9 @@ module _ {sweeps : Bool} (p : InPass) (out : List RowKind) (t : Tables) (queue :
   waits_then : IsWaiting then_ []
   waits_then =
       record {
-        parked = over (λ (x : Seen). (x.parked ≡ held_at_first e) ⊎ (x.parked ≡ [])) ready.queueing.waits.parked;
-        apart = λ req q has found. ready.queueing.waits.apart req q has (ap (λ (x : Seen). request_of x req) (sym same) ∙ found);
-        early = λ req q joined found. ready.queueing.waits.early req q (ap (λ (x : Seen). has_req x.joined req) (sym same) ∙ joined) (ap (λ (x : Seen). request_of x req) (sym same) ∙ found);
-      }
-
-  open_then : IsOpen then_ t.running cause n
-  open_then =
-      record {
-        may = over (λ (x : Seen). MayCause x cause) ready.open_.may;
-        since = over (λ (x : Seen). IsSince e.start x) ready.open_.since;
-        unwoken = over (λ (x : Seen). AwakeSince e.start [] x) ready.open_.unwoken;
-        still = over (λ (x : Seen). StillAwake e.start x) ready.open_.still;
-        moves = over (λ (x : Seen). MovesVisited x (show_why t.running cause)) ready.open_.moves;
-        leavers = over (λ (x : Seen). LeavesVisited x (show_why t.running cause)) ready.open_.leavers;
-        were = over WereShown ready.open_.were;
-        parents = over ParentsShown ready.open_.parents;
-        held = over (λ (x : Seen). AreUnheld e x) ready.open_.held;
-        takers = over TakersServe ready.open_.takers;
+        parked = over (λ (x : Seen). (x.parked ≡ held_at_first e) ⊎ (x.parked ≡ [])) queueing.waits.parked;
+        apart = λ req q has found. queueing.waits.apart req q has (ap (λ (x : Seen). request_of x req) (sym same) ∙ found);
+        early = λ req q joined found. queueing.waits.early req q (ap (λ (x : Seen). has_req x.joined req) (sym same) ∙ joined) (ap (λ (x : Seen). request_of x req) (sym same) ∙ found);
       }
 
   -- ---- the queue
@@ -119,15 +104,15 @@ module _ {sweeps : Bool} (p : InPass) (out : List RowKind) (t : Tables) (queue :
       ap (λ (rows_ : List LogRow). list_any is_traverse rows_) (later_cut e (out ++ more) e.checking (owes_seen e out) [] ∙ ap (λ (l : List RowKind). later_of e l) (append-nil (out ++ more)) ∙ later_more e out more)
       ∙ any_on (later_of e out) (map (row_of e) more) (none_traverses e more are)
 
-  queueing_then : IsQueueing pass_then [] tables_then queue
+  pub queueing_then : IsQueueing pass_then [] tables_then queue
   queueing_then =
       record {
         waits = waits_then;
-        queued = over (λ (x : Seen). HasQueue x t.running queue.waiting) ready.queueing.queued;
-        parked = over (λ (x : Seen). HoldsParked x queue.parked) ready.queueing.parked;
-        held = over (λ (x : Seen). NoneHeld t.running x) ready.queueing.held;
-        over = λ has. ap (λ (x : Seen). x.parked) same ∙ ready.queueing.over (sym traversed ∙ has);
-        releasing = λ some all. release (ready.queueing.releasing (λ none. some (ap (λ (x : Seen). x.parked) same ∙ none)) (ap (λ (x : Seen). all_stand x (aim_of x)) (sym same) ∙ all));
+        queued = over (λ (x : Seen). HasQueue x t.running queue.waiting) queueing.queued;
+        parked = over (λ (x : Seen). HoldsParked x queue.parked) queueing.parked;
+        held = over (λ (x : Seen). NoneHeld t.running x) queueing.held;
+        over = λ has. ap (λ (x : Seen). x.parked) same ∙ queueing.over (sym traversed ∙ has);
+        releasing = λ some all. release (queueing.releasing (λ none. some (ap (λ (x : Seen). x.parked) same ∙ none)) (ap (λ (x : Seen). all_stand x (aim_of x)) (sym same) ∙ all));
       }
     where
       release : MayRelease e out → MayRelease then_ []
@@ -141,43 +126,68 @@ module _ {sweeps : Bool} (p : InPass) (out : List RowKind) (t : Tables) (queue :
 
   -- ---- no step is in its check now, if none was
 
-  free_then : MayDiscardIn false e → MayDiscardIn false then_
+  pub free_then : MayDiscardIn false e → MayDiscardIn false then_
   free_then free =
-      subst (λ (x : Seen). NoStepChecks e.checking x) (sym (log_cut e (out ++ more) e.checking (owes_seen e out))) (prompts_keep (λ (x : Seen). NoStepChecks e.checking x) e (steps_prompt e.checking e) more out are (ready.passing.work.unheld free))
-
-  frees_then : FreesVisited then_ n
-  frees_then = over (λ (x : Seen). FreesVisited then_ x) (λ nav place placed need since. free_then (ready.frees nav place placed need since))
+      subst (λ (x : Seen). NoStepChecks e.checking x) (sym (log_cut e (out ++ more) e.checking (owes_seen e out))) (prompts_keep (λ (x : Seen). NoStepChecks e.checking x) e (steps_prompt e.checking e) more out are (passing.work.unheld free))
 
   -- ---- the coordinator goes on, as the table stands beside the log
 
-  module _ (but : ReqId → Bool) (stands : StandsAsked (IsToCome None then_ []) but then_ [] (record { checks = checks; run = [] })) {then_sweeps : Bool} (calm : IsCalmIn then_sweeps e.checking (log_of then_ [])) where
-    passing_then : IsPassingIn then_sweeps pass_then [] tables_then
+  module _ (but : ReqId → Bool) (stands : StandsAsked (IsToCome None then_ []) but then_ [] (record { checks = checks; run = ran })) {then_sweeps : Bool} (calm : IsCalmIn then_sweeps e.checking (log_of then_ [])) where
+    pub passing_then : IsPassingIn then_sweeps pass_then [] tables_then
     unfolding now_of
     passing_then =
         record {
-          work = work_prompted e out more are finished test None t ready.passing.work but tables_then refl stands calm;
-          going = over (λ (x : Seen). IsGoing t.running p.loads p.hand x) ready.passing.going;
-          owed = owed_prompted e out more are finished test ready.passing.owed;
-          loose = λ all. loose_prompted e out more are finished test (ready.passing.loose (ap (λ (x : Seen). all_stand x (aim_of x)) (sym same) ∙ all));
-          rests = over AllRest ready.passing.rests;
-          few = subst (λ (x : Seen). length x.kept ≤ t.kept.keep) (sym same) ready.passing.few;
-          duly = subst AreLeftDuly (sym (log_cut e (out ++ more) e.checking (owes_seen e out))) (prompts_keep AreLeftDuly e (λ x req doc duly. row_duly x e.event e.actor duly (rows.Prompted req doc) tt) more out are ready.passing.duly);
+          work = work_prompted e out more are finished test ran None t passing.work but tables_then refl stands calm;
+          going = over (λ (x : Seen). IsGoing t.running p.loads p.hand x) passing.going;
+          owed = owed_prompted e out more are finished test ran passing.owed;
+          loose = λ all. loose_prompted e out more are finished test ran (passing.loose (ap (λ (x : Seen). all_stand x (aim_of x)) (sym same) ∙ all));
+          rests = over AllRest passing.rests;
+          few = subst (λ (x : Seen). length x.kept ≤ t.kept.keep) (sym same) passing.few;
+          duly = subst AreLeftDuly (sym (log_cut e (out ++ more) e.checking (owes_seen e out))) (prompts_keep AreLeftDuly e (λ x req doc duly. row_duly x e.event e.actor duly (rows.Prompted req doc) tt) more out are passing.duly);
         }
 
-    pub ready_prompted : IsReadyIn then_sweeps pass_then [] tables_then queue blame cause
+-- ---- a pass may follow, as before
+
+module _ {sweeps : Bool} (p : InPass) (out : List RowKind) (t : Tables) (queue : Queue) (blame : List (StateId × ReqId)) (cause : Why) (ready : IsReadyIn sweeps p out t queue blame cause) (checks : List (ReqId × OpenCheck)) (more : List RowKind) (are : ArePrompts more) (finished : (log_of p.event out).just_finished ≡ None) (test : List LogRow → Bool) (ran : List DocId) where
+  abbrev there : InPass
+  there = pass_then p out t queue ready.passing ready.queueing checks more are finished test ran
+
+  abbrev on : (P : Seen → Type 0) → P (now_of p.event out) → P (now_of there.event [])
+  on P is = over p out t queue ready.passing ready.queueing checks more are finished test ran P is
+
+  open_then : IsOpen there.event t.running cause (now_of there.event [])
+  open_then =
+      record {
+        may = on (λ (x : Seen). MayCause x cause) ready.open_.may;
+        since = on (λ (x : Seen). IsSince p.event.start x) ready.open_.since;
+        unwoken = on (λ (x : Seen). AwakeSince p.event.start [] x) ready.open_.unwoken;
+        still = on (λ (x : Seen). StillAwake p.event.start x) ready.open_.still;
+        moves = on (λ (x : Seen). MovesVisited x (show_why t.running cause)) ready.open_.moves;
+        leavers = on (λ (x : Seen). LeavesVisited x (show_why t.running cause)) ready.open_.leavers;
+        were = on WereShown ready.open_.were;
+        parents = on ParentsShown ready.open_.parents;
+        held = on (λ (x : Seen). AreUnheld p.event x) ready.open_.held;
+        takers = on TakersServe ready.open_.takers;
+      }
+
+  frees_then : FreesVisited there.event (now_of there.event [])
+  frees_then = on (λ (x : Seen). FreesVisited there.event x) (λ nav place placed need since. free_then p out t queue ready.passing ready.queueing checks more are finished test ran (ready.frees nav place placed need since))
+
+  module _ (but : ReqId → Bool) (stands : StandsAsked (IsToCome None there.event []) but there.event [] (record { checks = checks; run = ran })) {then_sweeps : Bool} (calm : IsCalmIn then_sweeps p.event.checking (log_of there.event [])) where
+    pub ready_prompted : IsReadyIn then_sweeps there [] (record t { checks = checks }) queue blame cause
     ready_prompted =
         record {
-          passing = passing_then;
+          passing = passing_then p out t queue ready.passing ready.queueing checks more are finished test ran but stands calm;
           empty = ready.empty;
           header = ready.header;
           open_ = open_then;
-          loads = over (λ (x : Seen). MayStand t.running x) ready.loads;
+          loads = on (λ (x : Seen). MayStand t.running x) ready.loads;
           frees = frees_then;
-          blamed = over (λ (x : Seen). AreBlamed x blame) ready.blamed;
-          calm = over (λ (x : Seen). IsCalmBefore t.running cause x) ready.calm;
-          late = over (λ (x : Seen). LateKnown t.running x) ready.late;
-          moved = over (λ (x : Seen). MovedAreShown t.running x) ready.moved;
-          live = over LoadsLive ready.live;
-          theirs = over LoadsMadeOwn ready.theirs;
-          queueing = queueing_then;
+          blamed = on (λ (x : Seen). AreBlamed x blame) ready.blamed;
+          calm = on (λ (x : Seen). IsCalmBefore t.running cause x) ready.calm;
+          late = on (λ (x : Seen). LateKnown t.running x) ready.late;
+          moved = on (λ (x : Seen). MovedAreShown t.running x) ready.moved;
+          live = on LoadsLive ready.live;
+          theirs = on LoadsMadeOwn ready.theirs;
+          queueing = queueing_then p out t queue ready.passing ready.queueing checks more are finished test ran;
         }

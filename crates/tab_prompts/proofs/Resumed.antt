@@ -39,18 +39,18 @@ module _ {sweeps : Bool} (p : InPass) (out : List RowKind) (t : Tables) (queue :
 
   abbrev pub its_pass : InPass
   its_pass =
-      pass_then p out t queue blame cause ready its_table its_prompts (prompts_are its_table waited) its_finished (spares its_spared)
+      pass_then p out t queue ready.passing ready.queueing its_table its_prompts (prompts_are its_table waited) its_finished (spares its_spared) []
 
   abbrev pub its_tables : Tables
   its_tables =
-      tables_then p out t queue blame cause ready its_table its_prompts (prompts_are its_table waited) its_finished (spares its_spared)
+      tables_then p out t queue ready.passing ready.queueing its_table its_prompts (prompts_are its_table waited) its_finished (spares its_spared) []
 
   -- where all traversals that waited and are under way are among these, and about each of them that is settled now the user was asked
   pub ready_again : AreAllWaiting (log_of its_pass.event []) t.checks waited → ((req : ReqId) (q : Asked) → request_of (log_of its_pass.event []) req ≡ Some q → is_traversal q.what ≡ true → Has waited req → is_settled_in its_table req ≡ true → IsNotedFor its_table req) → IsReady its_pass [] its_tables queue blame cause
   ready_again all noted =
-      ready_prompted p out t queue blame cause ready its_table its_prompts (prompts_are its_table waited) its_finished (spares its_spared) (left None p.event out t ready.passing.work begins waited apart waits go) (cut_stands None p.event out t ready.passing.work begins waited apart waits go) (cut_calm None p.event out t ready.passing.work begins waited apart waits go all noted)
+      ready_prompted p out t queue blame cause ready its_table its_prompts (prompts_are its_table waited) its_finished (spares its_spared) [] (left None p.event out t ready.passing.work begins waited apart waits go) (cut_stands None p.event out t ready.passing.work begins waited apart waits go) (cut_calm None p.event out t ready.passing.work begins waited apart waits go all noted)
 
   -- where some of them go on a pass may follow that sweeps alone
   pub ready_to_sweep : IsReadyIn true its_pass [] its_tables queue blame cause
   ready_to_sweep =
-      ready_prompted p out t queue blame cause ready its_table its_prompts (prompts_are its_table waited) its_finished (spares its_spared) (left None p.event out t ready.passing.work begins waited apart waits go) (cut_stands None p.event out t ready.passing.work begins waited apart waits go) tt
+      ready_prompted p out t queue blame cause ready its_table its_prompts (prompts_are its_table waited) its_finished (spares its_spared) [] (left None p.event out t ready.passing.work begins waited apart waits go) (cut_stands None p.event out t ready.passing.work begins waited apart waits go) tt

@@ -137,7 +137,7 @@ module _ {sweeps : Bool} (move : Option Move) (e : InEvent) (out : List RowKind)
     -- ---- the event is cut behind them: what comes later is to spare the documents of what was noted for the run that lasts
 
     abbrev pub spared : List DocId
-    spared = new_notes (told_by t.checks out).checks then_told
+    spared = new_notes (told_by e.ran t.checks out).checks then_told
 
     abbrev pub then_ : InEvent
     then_ = cut_wanting e (out ++ prompts) e.checking (owes_seen e out) (spares spared)
@@ -145,14 +145,14 @@ module _ {sweeps : Bool} (move : Option Move) (e : InEvent) (out : List RowKind)
     -- so what comes later agrees with what was noted
     agrees : (later : List LogRow) → IsToCome move then_ [] later → Agreed (todo_of then_told) its_run e (out ++ prompts) (IsToCome move e (out ++ prompts)) later
     agrees later is =
-        (agrees_spared (told_by t.checks out).checks then_told (log_of e (out ++ prompts)) later (agrees_prompted e out prompts (told_by t.checks out) work.asked (prompts_are then_told waited)) parts.0, (is.0, parts.1))
+        (agrees_spared (told_by e.ran t.checks out).checks then_told (log_of e (out ++ prompts)) later (agrees_prompted e out prompts (told_by e.ran t.checks out) work.asked (prompts_are then_told waited)) parts.0, (is.0, parts.1))
       where
         parts : (spares spared later ≡ true) × AreAsWanted e (out ++ prompts) later
         parts = and_parts (spares spared later) (e.wants (map (row_of e) (out ++ prompts) ++ later)) is.1
 
     pub cut_stands : StandsAsked (IsToCome move then_ []) left then_ [] (record { checks = then_told; run = [] })
     cut_stands =
-        stands_wanting (IsToCome move then_ []) left (cut e (out ++ prompts) e.checking (owes_seen e out)) [] (record { checks = then_told; run = [] }) then_.wants
+        stands_wanting (IsToCome move then_ []) left (cut e (out ++ prompts) e.checking (owes_seen e out)) [] (record { checks = then_told; run = [] }) then_.wants []
         (stands_same (IsToCome move then_ []) left e (out ++ prompts) (record { checks = then_told; run = [] }) (owes_seen e out)
         (stands_less (Agreed (todo_of then_told) its_run e (out ++ prompts) (IsToCome move e (out ++ prompts))) (IsToCome move then_ []) left e (out ++ prompts) (record { checks = then_told; run = [] }) agrees settled_stands))
 
@@ -164,7 +164,7 @@ module _ {sweeps : Bool} (move : Option Move) (e : InEvent) (out : List RowKind)
     -- the coordinator goes on
     pub cut_works : {then_sweeps : Bool} → IsCalmIn then_sweeps e.checking (log_of then_ []) → IsAtWorkIn then_sweeps move then_ [] (record t { checks = then_told })
     cut_works calm =
-        work_prompted e out prompts (prompts_are then_told waited) (finished_since e out work.goes work.off begins.finished) (spares spared) move t work left (record t { checks = then_told }) refl cut_stands calm
+        work_prompted e out prompts (prompts_are then_told waited) (finished_since e out work.goes work.off begins.finished) (spares spared) [] move t work left (record t { checks = then_told }) refl cut_stands calm
 
     -- ---- what is wanted of the rows behind the cut
 
@@ -177,8 +177,8 @@ module _ {sweeps : Bool} (move : Option Move) (e : InEvent) (out : List RowKind)
     -- whatever they are they do, where the last run noted nothing
     pub spared_quiet : ((req : ReqId) → its_run req ≡ false) → (later : List LogRow) → spares spared later ≡ true
     spared_quiet quiet later =
-        subst (λ (docs : List DocId). spares docs later ≡ true) (sym (new_none (told_by t.checks out).checks then_told quiet)) (spares_any later)
+        subst (λ (docs : List DocId). spares docs later ≡ true) (sym (new_none (told_by e.ran t.checks out).checks then_told quiet)) (spares_any later)
 
     -- or where none lasts
-    pub spared_ended : (told_by t.checks out).run ≡ [] → (later : List LogRow) → spares spared later ≡ true
-    spared_ended ended = spared_quiet (ended_quiet (told_by t.checks out) ended)
+    pub spared_ended : (told_by e.ran t.checks out).run ≡ [] → (later : List LogRow) → spares spared later ≡ true
+    spared_ended ended = spared_quiet (ended_quiet (told_by e.ran t.checks out) ended)

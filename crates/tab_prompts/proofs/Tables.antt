@@ -1,7 +1,7 @@
 -- A table that is told of what rows discarded: each check stays in it, a settled one as it was, and whichever document it notes wanted a prompt before.
 use Rattle.check_facts.proofs.Tables.{check_dead}
 use Rattle.check_facts.specs.Prompting.{prompt_of}
-use Rattle.checking_facts.specs.Prompts.{Told, discarded_by, tell_for, tell_row}
+use Rattle.checking_facts.specs.Prompts.{Told, discarded_by, tell_for, tell_row, told_all, told_by}
 use Rattle.log_model.proofs.Refl.{nat_eq_refl}
 use Rattle.log_model.specs.declared.row_kind.RowKind.{RowKind}
 use Rattle.std.proofs.Common.{Bool, List, None, Option, Some, [], ap, cond, false, map, not, refl, subst, sym, true, ◌&&◌, ◌==◌, ◌||◌, ◌∙◌, ◌∷◌, ◌≡◌}
@@ -9,7 +9,7 @@ use Rattle.std.specs.List.{list_any}
 use Rattle.std.specs.Prelude.{fold, if◌then◌else◌, nat_lt, option_map}
 use Rattle.tab_ids.specs.declared.DocId.{DocId}
 use Rattle.tab_ids.specs.declared.ReqId.{ReqId}
-use Rattle.tab_prompts.specs.Asking.{told_of}
+use Rattle.tab_prompts.specs.Asking.{told_all}
 use Rattle.unload_check.specs.Checks as table
 use Rattle.unload_check.specs.Checks.{OpenCheck, after_all_deaths, check_of, is_settled, outcome_of}
 use Rattle.unload_check.specs.declared.asked_doc.AskedDoc.{AskedDoc}
@@ -74,7 +74,7 @@ at_dead docs None p is = ap (λ (x : Option OpenCheck). option_map (table.after_
 at_dead docs (Some c) p is =
     (table.after_deaths docs is.0, ap (λ (x : Option OpenCheck). option_map (table.after_deaths docs) x) is.1, goes_then c is.0 (table.after_deaths docs is.0) is.2 (goes_dead docs is.0))
 
-module _ (es : List (ReqId × OpenCheck)) (req : ReqId) where
+module _ (ran : List DocId) (es : List (ReqId × OpenCheck)) (req : ReqId) where
   abbrev Its : List (ReqId × OpenCheck) → Type 0
   Its now = GoesAt (check_of req es) (check_of req now)
 
@@ -93,11 +93,15 @@ module _ (es : List (ReqId × OpenCheck)) (req : ReqId) where
   its_rows told [] is = is
   its_rows told (kind ∷ out) is = its_rows (tell_row told kind) out (its_row told kind is)
 
+  -- told of each run that a row ended
+  pub goes_ended : (out : List RowKind) → GoesAt (check_of req es) (check_of req (told_by ran es out).checks)
+  goes_ended out = its_rows (record { checks = es; run = ran }) out (at_same (check_of req es))
+
   -- told of all that the rows discarded
-  pub goes_told : (out : List RowKind) → GoesAt (check_of req es) (check_of req (told_of es out))
+  pub goes_told : (out : List RowKind) → GoesAt (check_of req es) (check_of req (told_all ran es out))
   goes_told out =
-      let then_ : Told = fold tell_row (record { checks = es; run = [] }) out in
-      its_dead then_.run then_.checks (its_rows (record { checks = es; run = [] }) out (at_same (check_of req es)))
+      let then_ : Told = fold tell_row (record { checks = es; run = ran }) out in
+      its_dead then_.run then_.checks (its_rows (record { checks = es; run = ran }) out (at_same (check_of req es)))
 
 -- ---- what a check notes
 

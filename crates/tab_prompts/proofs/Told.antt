@@ -1,17 +1,18 @@
 -- The table is told of what the rows discarded: nobody in its check has passed but those whose last question was settled by it, and whichever document it notes for a request wanted a prompt.
 use Rattle.asking_facts.proofs.Noting.{told_pass}
-use Rattle.asking_facts.proofs.Ones.{told_duly, told_none, told_outside}
+use Rattle.asking_facts.proofs.Ones.{told_duly, told_outside}
 use Rattle.asking_facts.specs.Noting.{Agreed}
 use Rattle.asking_facts.specs.Prompting.{NotesWanted, has_wanted}
 use Rattle.asking_facts.specs.Standing.{StandsAsked}
 use Rattle.check_facts.proofs.Checkings.{settled_same, wants}
-use Rattle.check_facts.proofs.Tables.{todo_none}
+use Rattle.check_facts.proofs.Rows.{Plain, plain_of}
+use Rattle.check_facts.proofs.Tables.{check_dead, todo_none}
 use Rattle.check_facts.specs.Checking.{AreSaid, AreTiedAt, IsCheckTied, asked_of, is_checking, open_check}
 use Rattle.check_facts.specs.Having.{AreHeld, IsHeld}
 use Rattle.check_facts.specs.Prompting.{prompt_of, todo_of}
 use Rattle.checking_facts.proofs.Tellings.{runs_now, told_held, told_said}
 use Rattle.checking_facts.specs.Checks.{NonePassesBut}
-use Rattle.checking_facts.specs.Prompts.{told_by}
+use Rattle.checking_facts.specs.Prompts.{HasGoneOn, HasRun, Told, told_by}
 use Rattle.log_model.specs.Checks.{is_checked}
 use Rattle.log_model.specs.Equal.{holds}
 use Rattle.log_model.specs.Places.{all_asked, has_passed, is_gone, is_load, is_reload, is_traversal, is_under_way, may_leave}
@@ -19,8 +20,9 @@ use Rattle.log_model.specs.Seen.{Asked, Asking, Seen, request_of}
 use Rattle.log_model.specs.declared.handler.Verdict.TheVariants as verdicts
 use Rattle.log_model.specs.declared.handler.Verdict.{Verdict}
 use Rattle.log_model.specs.declared.row_kind.RowKind.{RowKind}
+use Rattle.seen_facts.proofs.Each.Courses.{was_asked}
 use Rattle.seen_laws.specs.InEvent.{InEvent, log_of}
-use Rattle.std.proofs.Common.{Bool, List, None, Option, Some, [], ap, cond, false, inl, inr, map, not, refl, subst, sym, true, ◌&&◌, ◌==◌, ◌||◌, ◌∙◌, ◌∷◌, ◌≡◌}
+use Rattle.std.proofs.Common.{Bool, List, None, Option, Some, [], ap, cond, false, inl, inr, map, not, refl, subst, sym, true, ◌&&◌, ◌==◌, ◌||◌, ◌∙◌, ◌∷◌, ◌≡◌, ◌⊎◌}
 use Rattle.std.proofs.lemmas.Bool.{and_parts}
 use Rattle.std.specs.Option.{option_map_or}
 use Rattle.std.specs.Prelude.{is_none, option_and_then, option_map}
@@ -31,10 +33,11 @@ use Rattle.tab_ids.specs.declared.DocId.{DocId}
 use Rattle.tab_ids.specs.declared.ReqId.{ReqId}
 use Rattle.tab_prompts.proofs.Since.{Course, course_of, so_since}
 use Rattle.tab_prompts.proofs.Tables.{Goes, GoesAt, goes_told, noted_in, wants_in}
-use Rattle.tab_prompts.specs.Asking.{BeginsAsked, are_unheard, told_of}
+use Rattle.tab_prompts.specs.Asking.{BeginsAsked, are_unheard, told_all}
 use Rattle.tab_prompts.specs.Prompts.{is_settled_in, is_settled_since, is_waiting}
+use Rattle.unload_check.proofs.Stays.{settled_deaths}
 use Rattle.unload_check.specs.Checks as table
-use Rattle.unload_check.specs.Checks.{OpenCheck, check_of, is_settled, outcome_of}
+use Rattle.unload_check.specs.Checks.{OpenCheck, after_all_deaths, after_deaths, check_of, is_settled, outcome_of}
 use Rattle.unload_check.specs.declared.check.Check.TheVariants as checks
 
 some_same : {A : Type 0} {a b : A} → (let o : Option A = Some a in o) ≡ Some b → a ≡ b
@@ -112,6 +115,40 @@ module _ (s : Seen) (q : Asked) (c : OpenCheck) (tied : AreTiedAt s (Some q) (So
   pub tied_is : all_asked s q ≡ false → c ≡ open_check (is_gone s) q.asks
   tied_is e = subst (λ (b : Bool). IsCheckTied s q c b) e tied.1
 
+-- ---- a check that waits, while a run lasts of which the table wasn't told
+
+-- a request, as the run began: a question was open, and the check is that of its questions
+pub record WasOpenThen (start now : Seen) (told : Told) (run : HasRun start now told) (p : Asked) (c : OpenCheck) : Type 0 where
+  pub q : Asked
+  pub nr : ReqId
+  pub at : request_of run.was nr ≡ Some q
+  pub same : plain_of q ≡ plain_of p
+  pub open_ : all_asked run.was q ≡ false
+  pub is : c ≡ open_check (is_gone run.was) q.asks
+
+pub open_then : (start now : Seen) (told : Told) (run : HasRun start now told) (req : ReqId) (p : Asked) (c : OpenCheck) → request_of now req ≡ Some p → check_of req told.checks ≡ Some c → is_settled c ≡ false → WasOpenThen start now told run p c
+open_then start now told run req p c at has un = by_same (run.same req)
+  where
+    q : (q : Asked) × (request_of run.was req ≡ Some q) × (plain_of q ≡ plain_of p)
+    q = was_asked plain_of run.was.requests now.requests run.asks req p at
+
+    by_tied : AreTiedAt run.was (Some q.0) (Some c) → WasOpenThen start now told run p c
+    by_tied tied =
+        let open_ = tied_open run.was q.0 c tied un in
+        record { q = q.0; nr = req; at = q.1; same = q.2; open_ = open_; is = tied_is run.was q.0 c tied open_ }
+
+    by_held : check_of req told.checks ≡ check_of req run.all → IsHeld run.was run.all req q.0 → WasOpenThen start now told run p c
+    by_held same (inl tied) =
+        by_tied (subst (λ (o : Option OpenCheck). AreTiedAt run.was (Some q.0) o) (sym same ∙ has) tied)
+    by_held same (inr both) =
+        never (sym both.1 ∙ ap (λ (o : Option OpenCheck). option_map_or is_settled o false) (sym same ∙ has) ∙ un)
+
+    by_same : (check_of req told.checks ≡ check_of req run.all) ⊎ HasGoneOn now told.checks req → WasOpenThen start now told run p c
+    by_same (inl same) = by_held same (run.held req q.0 q.1)
+    by_same (inr gone) =
+        let both : (let o : Option OpenCheck = Some c in o) ≡ None = sym has ∙ gone.none in
+        absurd cc
+
 -- ---- the table is told
 
 module _ {sweeps : Bool} (move : Option Move) (e : InEvent) (out : List RowKind) (t : Tables) (work : IsAtWorkIn sweeps move e out t) (begins : BeginsAsked e t.checks) where
@@ -122,7 +159,7 @@ module _ {sweeps : Bool} (move : Option Move) (e : InEvent) (out : List RowKind)
   first = log_of e []
 
   abbrev pub told : List (ReqId × OpenCheck)
-  told = told_of t.checks out
+  told = told_all e.ran t.checks out
 
   -- a request in its check, as the event began or was cut
   abbrev Was : ReqId → Asked → Type 0
@@ -132,42 +169,45 @@ module _ {sweeps : Bool} (move : Option Move) (e : InEvent) (out : List RowKind)
   pub was : (req : ReqId) (q : Asked) → request_of now req ≡ Some q → e.checking req ≡ true → Was req q
   was = so_since e out work.goes work.off
 
-  -- the table held its check then, and does
-  pub held_first : AreHeld first t.checks
-  held_first =
-      subst (λ (es : List (ReqId × OpenCheck)). AreHeld first es) (told_none t.checks) (told_held e.start first (record { checks = t.checks; run = [] }) begins.asked.run)
+  -- told of the run that lasted then the table held its check, and does now
+  abbrev then_checks : List (ReqId × OpenCheck)
+  then_checks = after_all_deaths e.ran t.checks
 
-  pub said_first : AreSaid first
-  said_first = told_said e.start first (record { checks = t.checks; run = [] }) begins.asked.run
+  held_first : AreHeld first then_checks
+  held_first = told_held e.start first (record { checks = t.checks; run = e.ran }) begins.asked.run
+
+  said_first : AreSaid first
+  said_first = told_said e.start first (record { checks = t.checks; run = e.ran }) begins.asked.run
 
   pub held_now : AreHeld now told
-  held_now = told_held e.start now (told_by t.checks out) work.asked.run
+  held_now = told_held e.start now (told_by e.ran t.checks out) work.asked.run
 
   pub said_now : AreSaid now
-  said_now = told_said e.start now (told_by t.checks out) work.asked.run
+  said_now = told_said e.start now (told_by e.ran t.checks out) work.asked.run
 
   -- of one that the table had settled then, all were asked
   pub first_settled : (req : ReqId) (p : Asked) (c : OpenCheck) → request_of first req ≡ Some p → check_of req t.checks ≡ Some c → is_settled c ≡ true → all_asked first p ≡ true
   first_settled req p c at has settled = by_held (held_first req p at)
     where
-      by_held : IsHeld first t.checks req p → all_asked first p ≡ true
-      by_held (inr both) = both.0
-      by_held (inl tied) = tied_settled first p c (subst (λ (o : Option OpenCheck). AreTiedAt first (Some p) o) has tied) said_first req at settled
+      still : check_of req then_checks ≡ Some c
+      still =
+          settled_deaths e.ran t.checks req (ap (λ (o : Option OpenCheck). option_map_or is_settled o false) has ∙ settled) ∙ has
 
-  -- of one that it hadn't, a question was open, and the check was that of its questions
-  pub first_open : (req : ReqId) (p : Asked) (c : OpenCheck) → request_of first req ≡ Some p → check_of req t.checks ≡ Some c → is_settled c ≡ false → AreTiedAt first (Some p) (Some c)
-  first_open req p c at has un = by_held (held_first req p at)
-    where
-      by_held : IsHeld first t.checks req p → AreTiedAt first (Some p) (Some c)
-      by_held (inl tied) = subst (λ (o : Option OpenCheck). AreTiedAt first (Some p) o) has tied
-      by_held (inr both) = never (sym both.1 ∙ ap (λ (o : Option OpenCheck). option_map_or is_settled o false) has ∙ un)
+      by_held : IsHeld first then_checks req p → all_asked first p ≡ true
+      by_held (inr both) = both.0
+      by_held (inl tied) = tied_settled first p c (subst (λ (o : Option OpenCheck). AreTiedAt first (Some p) o) still tied) said_first req at settled
+
+  -- of one that it hadn't, a question was open as the run began that lasted then, and the check was that of its questions
+  pub first_open : (req : ReqId) (p : Asked) (c : OpenCheck) → request_of first req ≡ Some p → check_of req t.checks ≡ Some c → is_settled c ≡ false → WasOpenThen e.start first (record { checks = t.checks; run = e.ran }) begins.asked.run p c
+  first_open req p c at has un =
+      open_then e.start first (record { checks = t.checks; run = e.ran }) begins.asked.run req p c at has un
 
   -- the check of one that had one
   abbrev ToldOf : ReqId → OpenCheck → Type 0
   ToldOf req c = (x : OpenCheck) × (check_of req told ≡ Some x) × Goes c x
 
   pub told_check : (req : ReqId) (c : OpenCheck) → check_of req t.checks ≡ Some c → ToldOf req c
-  told_check req c has = subst (λ (o : Option OpenCheck). GoesAt o (check_of req told)) has (goes_told t.checks req out)
+  told_check req c has = subst (λ (o : Option OpenCheck). GoesAt o (check_of req told)) has (goes_told e.ran t.checks req out)
 
   -- ---- who hasn't passed
 
@@ -192,14 +232,21 @@ module _ {sweeps : Bool} (move : Option Move) (e : InEvent) (out : List RowKind)
     has_check : (c : OpenCheck) × (check_of req t.checks ≡ Some c)
     has_check = by_check (check_of req t.checks) refl (held_first req p.0 p.1)
       where
-        by_check : (o : Option OpenCheck) → check_of req t.checks ≡ o → IsHeld first t.checks req p.0 → (c : OpenCheck) × (check_of req t.checks ≡ Some c)
+        by_check : (o : Option OpenCheck) → check_of req t.checks ≡ o → IsHeld first then_checks req p.0 → (c : OpenCheck) × (check_of req t.checks ≡ Some c)
         by_check (Some c) has held = (c, has)
-        by_check None has (inl tied) =
-            let off : is_checking first p.0 ≡ false = subst (λ (o : Option OpenCheck). AreTiedAt first (Some p.0) o) has tied in
-            let is : is_checking first p.0 ≡ true = rw (p_checked, p_runs, p_waits) refl in
-            never (sym is ∙ off)
-        by_check None has (inr both) =
-            never (sym both.1 ∙ ap (λ (o : Option OpenCheck). option_map_or is_settled o false) has)
+        by_check None has held = by_held held
+          where
+            none : check_of req then_checks ≡ None
+            none =
+                check_dead req e.ran t.checks ∙ ap (λ (o : Option OpenCheck). option_map (after_deaths e.ran) o) has
+
+            by_held : IsHeld first then_checks req p.0 → (c : OpenCheck) × (check_of req t.checks ≡ Some c)
+            by_held (inl tied) =
+                let off : is_checking first p.0 ≡ false = subst (λ (o : Option OpenCheck). AreTiedAt first (Some p.0) o) none tied in
+                let is : is_checking first p.0 ≡ true = rw (p_checked, p_runs, p_waits) refl in
+                never (sym is ∙ off)
+            by_held (inr both) =
+                never (sym both.1 ∙ ap (λ (o : Option OpenCheck). option_map_or is_settled o false) none)
 
     -- where it was settled, its prompt is up
     settled_waits : is_settled (has_check.0) ≡ true → has_passed now q ≡ false
@@ -246,7 +293,7 @@ module _ {sweeps : Bool} (move : Option Move) (e : InEvent) (out : List RowKind)
       by_on : (b : Bool) → e.checking req ≡ b → b ≡ true
       by_on true is = refl
       by_on false off =
-          let both : (let o : Option OpenCheck = None in o) ≡ Some x = sym (told_outside e.checking e.start now (told_by t.checks out) work.asked req off) ∙ has in
+          let both : (let o : Option OpenCheck = None in o) ≡ Some x = sym (told_outside e.checking e.start now (told_by e.ran t.checks out) work.asked req off) ∙ has in
           absurd cc
 
   -- a request for which it notes a prompt
@@ -266,7 +313,7 @@ module _ {sweeps : Bool} (move : Option Move) (e : InEvent) (out : List RowKind)
     where
       by_first : (x : OpenCheck) → check_of req told ≡ Some x → prompt_of (outcome_of x) ≡ Some doc → (o : Option OpenCheck) → check_of req t.checks ≡ o → IsNoted req doc
       by_first x has_now notes None has =
-          let none : check_of req told ≡ None = subst (λ (o : Option OpenCheck). GoesAt o (check_of req told)) has (goes_told t.checks req out) in
+          let none : check_of req told ≡ None = subst (λ (o : Option OpenCheck). GoesAt o (check_of req told)) has (goes_told e.ran t.checks req out) in
           let both : (let o : Option OpenCheck = None in o) ≡ Some x = sym none ∙ has_now in
           absurd cc
       by_first x has_now notes (Some c) has =
@@ -301,22 +348,21 @@ module _ {sweeps : Bool} (move : Option Move) (e : InEvent) (out : List RowKind)
           let before : todo_of t.checks req ≡ Some doc = ap (λ (o : Option OpenCheck). option_and_then prompt_of (option_map outcome_of o)) its.has ∙ ap (λ (y : OpenCheck). prompt_of (outcome_of y)) (sym same) ∙ its.notes in
           subst (λ (l : List Asking). has_wanted doc l ≡ true) asks (begins.notes req p.0 p.1 doc before)
       by_settled false un =
-          let tied = first_open req p.0 its.c p.1 its.has un in
-          let open_ = tied_is first p.0 its.c tied (tied_open first p.0 its.c tied un) in
-          let heard = heard_wanted (is_gone first) doc (p.0).asks (subst (λ (y : OpenCheck). wants_in doc y.asked ≡ true) open_ its.wants) in
-          subst (λ (l : List Asking). has_wanted doc l ≡ true) asks heard.0
+          let was_ = first_open req p.0 its.c p.1 its.has un in
+          let heard = heard_wanted (is_gone begins.asked.run.was) doc was_.q.asks (subst (λ (y : OpenCheck). wants_in doc y.asked ≡ true) was_.is its.wants) in
+          subst (λ (l : List Asking). has_wanted doc l ≡ true) (ap (λ (x : Plain). x.asks) was_.same ∙ asks) heard.0
 
   -- ---- all of it
 
   -- what comes later is to agree with what is noted for these, while the run lasts with which the rows end
   abbrev pub ran : ReqId → Bool
-  ran = runs_now e.start now (told_by t.checks out) work.asked.run
+  ran = runs_now e.start now (told_by e.ran t.checks out) work.asked.run
 
   pub told_asked : StandsAsked (Agreed (todo_of told) ran e out (IsToCome move e out)) (is_settled_since t.checks told) e out (record { checks = told; run = [] })
   told_asked =
       record {
-        pass = told_pass (IsToCome move e out) e out (told_by t.checks out) work.asked.run work.lawful;
-        asked = told_duly e.checking e.start now (told_by t.checks out) work.asked;
+        pass = told_pass (IsToCome move e out) e out (told_by e.ran t.checks out) work.asked.run work.lawful;
+        asked = told_duly e.checking e.start now (told_by e.ran t.checks out) work.asked;
         checks = work.checks;
         none = none_told;
         notes = notes_told;

@@ -27,11 +27,11 @@ use Rattle.tab_settles.specs.Settling.{IsReadyIn}
 use Rattle.unload_check.specs.Checks.{OpenCheck}
 
 -- no run lasts behind a row that discards nothing
-pub ended_run : (checks : List (ReqId × OpenCheck)) (out : List RowKind) → EndsRun out → (told_by checks out).run ≡ []
-ended_run checks out ends =
-    ap (λ (l : List RowKind). (told_by checks l).run) ends.is
-    ∙ ap (λ (told : Told). told.run) (fold-append tell_row (record { checks = checks; run = [] }) ends.before (ends.last ∷ []))
-    ∙ ap (λ (o : Option DocId). (tell_for (told_by checks ends.before) o).run) ends.none
+pub ended_run : (ran : List DocId) (checks : List (ReqId × OpenCheck)) (out : List RowKind) → EndsRun out → (told_by ran checks out).run ≡ []
+ended_run ran checks out ends =
+    ap (λ (l : List RowKind). (told_by ran checks l).run) ends.is
+    ∙ ap (λ (told : Told). told.run) (fold-append tell_row (record { checks = checks; run = ran }) ends.before (ends.last ∷ []))
+    ∙ ap (λ (o : Option DocId). (tell_for (told_by ran checks ends.before) o).run) ends.none
 
 module _ {sweeps : Bool} (p : InPass) (out : List RowKind) (t : Tables) (queue : Queue) (blame : List (StateId × ReqId)) (cause : Why) (ready : IsReadyIn sweeps p out t queue blame cause) (begins : BeginsAsked p.event t.checks) (waited : List ReqId) (apart : AreApart waited) (waits : (req : ReqId) → Has waited req → is_waiting t.checks req ≡ true) (go : AreUnderWay (log_of p.event out) waited) where
   abbrev then_ : InPass
@@ -45,12 +45,12 @@ module _ {sweeps : Bool} (p : InPass) (out : List RowKind) (t : Tables) (queue :
 
   -- no document is stray then still
   none_then : NoneStray (now_of p.event out) → NoneStray (now_of then_.event [])
-  none_then none = subst NoneStray (sym (same_prompted p.event out asked (prompts_are (its_table p out t queue blame cause ready begins waited apart waits go) waited) (its_finished p out t queue blame cause ready begins waited apart waits go) (spares wanted))) none
+  none_then none = subst NoneStray (sym (same_prompted p.event out asked (prompts_are (its_table p out t queue blame cause ready begins waited apart waits go) waited) (its_finished p out t queue blame cause ready begins waited apart waits go) (spares wanted) [])) none
 
   -- so what follows spares those documents, if it discards none where none is stray
   pub spared_then : EndsRun out ⊎ NoneStray (now_of p.event out) → (more : List RowKind) → (NoneStray (now_of then_.event []) → HasOnly DiscardsNone [] more) → spares wanted (map (row_of p.event) more) ≡ true
   spared_then (inl ends) more quiet =
-      spared_ended None p.event out t ready.passing.work begins waited apart waits go (ended_run t.checks out ends) (map (row_of p.event) more)
+      spared_ended None p.event out t ready.passing.work begins waited apart waits go (ended_run p.event.ran t.checks out ends) (map (row_of p.event) more)
   spared_then (inr none) more quiet =
       let only = quiet (none_then none) in
       spares_put wanted p.event more (λ kind has. ap (λ (o : Option DocId). option_map_or (has_doc wanted) o false) (only.each kind (subst (λ (l : List RowKind). Has l kind) only.is has)))

@@ -11,7 +11,7 @@ use Rattle.log_model.specs.declared.row_kind.RowKind.TheVariants as rows
 use Rattle.log_model.specs.declared.row_kind.RowKind.{RowKind}
 use Rattle.row_facts.specs.Owed.Owed.{IsLoose, IsOwed, Lasts, Stays, owes_seen}
 use Rattle.seen_laws.proofs.InEvents.{log_fold, log_more}
-use Rattle.seen_laws.specs.InEvent.{InEvent, cut, cut_wanting, log_of, now_of, row_of}
+use Rattle.seen_laws.specs.InEvent.{InEvent, cut, cut_wanting, log_of, now_of, row_of, running}
 use Rattle.seen_laws.specs.Unasked.{no_question}
 use Rattle.std.proofs.Common.{Bool, List, None, Option, Some, [], ap, append-nil, append_assoc, map, refl, subst, sym, ℕ, ◌++◌, ◌+◌, ◌∙◌, ◌∷◌, ◌≡◌}
 use Rattle.std.proofs.lemmas.List.{map-append}
@@ -119,13 +119,13 @@ asking_over e (_ ∷ more) out never t ties = absurd never
 
 -- ---- the event is cut behind them
 
-module _ (e : InEvent) (out more : List RowKind) (are : ArePrompts more) (finished : FinishedNone e out) (test : List LogRow → Bool) where
+module _ (e : InEvent) (out more : List RowKind) (are : ArePrompts more) (finished : FinishedNone e out) (test : List LogRow → Bool) (ran : List DocId) where
   abbrev cut_prompted : InEvent
   cut_prompted = cut e (out ++ more) e.checking (owes_seen e out)
 
-  -- this is wanted of what comes after
+  -- this is wanted of what comes after, and this run lasts
   abbrev pub then_prompted : InEvent
-  then_prompted = cut_wanting e (out ++ more) e.checking (owes_seen e out) test
+  then_prompted = running (cut_wanting e (out ++ more) e.checking (owes_seen e out) test) ran
 
   -- the log without questions is as it was
   pub same_prompted : now_of then_prompted [] ≡ now_of e out
@@ -138,12 +138,12 @@ module _ (e : InEvent) (out more : List RowKind) (are : ArePrompts more) (finish
 
   pub owed_prompted : IsOwed e out → IsOwed then_prompted []
   owed_prompted owed =
-      owed_wanting cut_prompted then_prompted.wants
+      owed_wanting cut_prompted then_prompted.wants ran
       (owed_cut e (out ++ more) e.checking (owes_seen e out) (λ end stays. owed end (subst (λ (s : Seen). Stays s end) before_same stays)))
 
   pub loose_prompted : IsLoose e out → IsLoose then_prompted []
   loose_prompted loose =
-      loose_wanting cut_prompted then_prompted.wants
+      loose_wanting cut_prompted then_prompted.wants ran
       (loose_cut e (out ++ more) e.checking (owes_seen e out) (λ end lasts. loose end (subst (λ (s : Seen). Lasts s end) before_same lasts)))
 
   module _ {sweeps : Bool} (move : Option Move) (t : Tables) (work : IsAtWorkIn sweeps move e out t) where
@@ -176,6 +176,6 @@ module _ (e : InEvent) (out more : List RowKind) (are : ArePrompts more) (finish
           kept = ties.kept;
         }))
 
-    pub work_prompted : (but : ReqId → Bool) (u : Tables) → u ≡ record t { checks = u.checks } → StandsAsked (IsToCome move then_prompted []) but then_prompted [] (record { checks = u.checks; run = [] }) → {then_sweeps : Bool} → IsCalmIn then_sweeps e.checking (log_of then_prompted []) → IsAtWorkIn then_sweeps move then_prompted [] u
+    pub work_prompted : (but : ReqId → Bool) (u : Tables) → u ≡ record t { checks = u.checks } → StandsAsked (IsToCome move then_prompted []) but then_prompted [] (record { checks = u.checks; run = ran }) → {then_sweeps : Bool} → IsCalmIn then_sweeps e.checking (log_of then_prompted []) → IsAtWorkIn then_sweeps move then_prompted [] u
     work_prompted but u is stands calm =
-        work_wanting move e (out ++ more) e.checking (owes_seen e out) u but then_prompted.wants work.own work.worker work.numbered (soles_on e more out are work.sole) debts_prompted stands (ties_prompted u is) (subst (λ (x : Tables). TiesAsking e.checking (log_of e (out ++ more)) x.asking) (sym is) (asking_over e more out are t work.asking)) calm
+        work_wanting move e (out ++ more) e.checking (owes_seen e out) u but then_prompted.wants ran work.own work.worker work.numbered (soles_on e more out are work.sole) debts_prompted stands (ties_prompted u is) (subst (λ (x : Tables). TiesAsking e.checking (log_of e (out ++ more)) x.asking) (sym is) (asking_over e more out are t work.asking)) calm

@@ -3,7 +3,8 @@
 use Rattle.asking_facts.specs.Noting.{IsToPrompt}
 use Rattle.asking_facts.specs.Prompting.{NoneAnsweredEarly, NotesWanted}
 use Rattle.check_facts.specs.Prompting.{IsAskDue, todo_of}
-use Rattle.checking_facts.specs.Prompts.{AreAskedDuly, told_by}
+use Rattle.checking_facts.specs.Prompts.{AreAskedDuly}
+pub use Rattle.checking_facts.specs.Prompts.{told_all}
 use Rattle.log_model.specs.Places.{all_asked, is_traversal, is_under_way}
 use Rattle.log_model.specs.Seen.{Asked, Asking, Seen, request_of}
 use Rattle.log_model.specs.declared.row_kind.RowKind.TheVariants as rows
@@ -16,11 +17,7 @@ use Rattle.tab_ids.specs.declared.DocId.{DocId}
 use Rattle.tab_ids.specs.declared.ReqId.{ReqId}
 use Rattle.tab_prompts.specs.Prompts.{is_waiting}
 use Rattle.unasked_dues.specs.Checking.{NonePasses}
-use Rattle.unload_check.specs.Checks.{OpenCheck, after_all_deaths, check_of}
-
--- a table that had these checks before these rows, told of all that they discarded
-abbrev pub told_of : List (ReqId × OpenCheck) → List RowKind → List (ReqId × OpenCheck)
-told_of checks out = after_all_deaths (told_by checks out).run (told_by checks out).checks
+use Rattle.unload_check.specs.Checks.{OpenCheck, check_of}
 
 -- none of the answers to these questions was delivered
 abbrev pub are_unheard : List Asking → Bool
@@ -32,22 +29,22 @@ pub record WasOpen (start : Seen) (req : ReqId) : Type 0 where
   pub found : request_of start req ≡ Some was
   pub open_ : all_asked start was ≡ false
 
--- as the event's own row was logged, or the event was cut: the table held each check, and no traversal in its check had passed; whichever document it noted for a request wanted a prompt; no request has an answer of the user that has no prompt; a request with an open question had one as the event began, or no answer of it was delivered; there is no check without a request; and no order was just finished
+-- as the event's own row was logged, or the event was cut: the table held each check, and no traversal in its check had passed; whichever document it noted for a request wanted a prompt; no request has an answer of the user that has no prompt; one whose check waits had an open question as the event began, or no answer of it was delivered; there is no check without a request; and no order was just finished
 pub record BeginsAsked (e : InEvent) (checks : List (ReqId × OpenCheck)) : Type 0 where
-  pub asked : AreAskedDuly e.checking e.start (log_of e []) (record { checks = checks; run = [] })
+  pub asked : AreAskedDuly e.checking e.start (log_of e []) (record { checks = checks; run = e.ran })
   pub calm : NonePasses e.checking (log_of e [])
   pub notes : NotesWanted (log_of e []) checks
   pub unanswered : NoneAnsweredEarly (log_of e [])
-  pub opens : (req : ReqId) (q : Asked) → request_of (log_of e []) req ≡ Some q → all_asked (log_of e []) q ≡ false → WasOpen e.start req ⊎ (are_unheard q.asks ≡ true)
+  pub opens : (req : ReqId) (q : Asked) → request_of (log_of e []) req ≡ Some q → is_waiting checks req ≡ true → WasOpen e.start req ⊎ (are_unheard q.asks ≡ true)
   pub there : (req : ReqId) → request_of (log_of e []) req ≡ None → check_of req checks ≡ None
   pub finished : (log_of e []).just_finished ≡ None
 
 -- all of it but that no traversal in its check had passed
 pub record BeginsMost (e : InEvent) (checks : List (ReqId × OpenCheck)) : Type 0 where
-  pub asked : AreAskedDuly e.checking e.start (log_of e []) (record { checks = checks; run = [] })
+  pub asked : AreAskedDuly e.checking e.start (log_of e []) (record { checks = checks; run = e.ran })
   pub notes : NotesWanted (log_of e []) checks
   pub unanswered : NoneAnsweredEarly (log_of e [])
-  pub opens : (req : ReqId) (q : Asked) → request_of (log_of e []) req ≡ Some q → all_asked (log_of e []) q ≡ false → WasOpen e.start req ⊎ (are_unheard q.asks ≡ true)
+  pub opens : (req : ReqId) (q : Asked) → request_of (log_of e []) req ≡ Some q → is_waiting checks req ≡ true → WasOpen e.start req ⊎ (are_unheard q.asks ≡ true)
   pub there : (req : ReqId) → request_of (log_of e []) req ≡ None → check_of req checks ≡ None
   pub finished : (log_of e []).just_finished ≡ None
 

@@ -69,12 +69,12 @@ known_end e out later goes its passes known =
 -- ---- the table
 
 -- it stands for the log where each check that is settled has its prompt up
-pub checks_end : (e : InEvent) (out : List RowKind) (checks : List (ReqId × OpenCheck)) → AreAskedDuly e.checking e.start (log_of e out) (told_by checks out) → IsAllTied (log_of e out) (told_all checks out) → NonePasses e.checking (log_of e out) → ChecksStand e.checking (log_of e out) (told_all checks out)
+pub checks_end : (e : InEvent) (out : List RowKind) (checks : List (ReqId × OpenCheck)) → AreAskedDuly e.checking e.start (log_of e out) (told_by e.ran checks out) → IsAllTied (log_of e out) (told_all e.ran checks out) → NonePasses e.checking (log_of e out) → ChecksStand e.checking (log_of e out) (told_all e.ran checks out)
 checks_end e out checks asked all calm =
     record {
-      has = has_checks e.checking e.start (log_of e out) (told_by checks out) asked all;
-      open_ = has_open e.checking e.start (log_of e out) (told_by checks out) asked all;
-      within = told_outside e.checking e.start (log_of e out) (told_by checks out) asked;
+      has = has_checks e.checking e.start (log_of e out) (told_by e.ran checks out) asked all;
+      open_ = has_open e.checking e.start (log_of e out) (told_by e.ran checks out) asked all;
+      within = told_outside e.checking e.start (log_of e out) (told_by e.ran checks out) asked;
       calm = calm;
     }
 

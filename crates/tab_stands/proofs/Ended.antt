@@ -140,7 +140,7 @@ as_stands check s t checks queue blame stands =
       parked = stands.parked;
     }
 
-module _ (p : InPass) (out : List RowKind) (t : Tables) (queue : Queue) (blame : List (StateId × ReqId)) (cause : Why) (waits : Bool) (alone : NoneRunsWhileHeld waits t.running) (at : HasSettled p out t queue blame cause) (makes : MakesServe (now_of p.event out)) (sound : OrdersAreSound (now_of p.event out)) (of_coord : (row : RowKind) → Has out row → IsOfCoord row) (shows : EachPass (start_of p.event) (rows_of p.event out) [] → AreShownUnder (log_of p.event [])) (known : EachPass (start_of p.event) (rows_of p.event out) [] → AskingKnown (log_of p.event [])) (settled : IsAllTied (log_of p.event out) (told_all t.checks out)) (wanted : EndAsWanted p.event out) where
+module _ (p : InPass) (out : List RowKind) (t : Tables) (queue : Queue) (blame : List (StateId × ReqId)) (cause : Why) (waits : Bool) (alone : NoneRunsWhileHeld waits t.running) (at : HasSettled p out t queue blame cause) (makes : MakesServe (now_of p.event out)) (sound : OrdersAreSound (now_of p.event out)) (of_coord : (row : RowKind) → Has out row → IsOfCoord row) (shows : EachPass (start_of p.event) (rows_of p.event out) [] → AreShownUnder (log_of p.event [])) (known : EachPass (start_of p.event) (rows_of p.event out) [] → AskingKnown (log_of p.event [])) (settled : IsAllTied (log_of p.event out) (told_all p.event.ran t.checks out)) (wanted : EndAsWanted p.event out) where
   abbrev s : Seen
   s = now_of p.event out
 
@@ -177,7 +177,7 @@ module _ (p : InPass) (out : List RowKind) (t : Tables) (queue : Queue) (blame :
   -- each row passes, as each check that is settled has its prompt up, and the rows are as those before the cut want them
   passes : IsTakenIn p.event (later_of p.event out) → EachPass (start_of p.event) (rows_of p.event out) []
   passes taken =
-      pass_tied (IsToCome None p.event out) p.event out (told_by t.checks out) at.passing.work.asked at.passing.work.lawful (come_end p.event out wanted) paid taken at.queueing.over settled
+      pass_tied (IsToCome None p.event out) p.event out (told_by p.event.ran t.checks out) at.passing.work.asked at.passing.work.lawful (come_end p.event out wanted) paid taken at.queueing.over settled
 
   -- what lasts of the log itself
   lasts_log : IsTakenIn p.event (later_of p.event out) → LastsInLog p.event.checking t.asking (log_of p.event out)
@@ -216,18 +216,18 @@ module _ (p : InPass) (out : List RowKind) (t : Tables) (queue : Queue) (blame :
       }
 
   -- the table that was told of all that was discarded stands for the log
-  asks : IsTakenIn p.event (later_of p.event out) → ChecksStand p.event.checking (log_of p.event out) (told_all t.checks out)
+  asks : IsTakenIn p.event (later_of p.event out) → ChecksStand p.event.checking (log_of p.event out) (told_all p.event.ran t.checks out)
   asks taken =
       checks_end p.event out t.checks at.passing.work.asked settled at.passing.work.calm
 
-  pub acted : (waits ≡ false → IsNoneDue s t.running queue.waiting) → IsTakenIn p.event (later_of p.event out) → HasActed check p.event out (record t { checks = told_all t.checks out }) queue blame
+  pub acted : (waits ≡ false → IsNoneDue s t.running queue.waiting) → IsTakenIn p.event (later_of p.event out) → HasActed check p.event out (record t { checks = told_all p.event.ran t.checks out }) queue blame
   acted due taken =
       record {
         stands = record {
           between = between due;
           alone = alone;
           lasts = lasts (once taken);
-          tied = told_tied p out t (told_all t.checks out) at.passing.work;
+          tied = told_tied p out t (told_all p.event.ran t.checks out) at.passing.work;
           strays = at.strays;
           queue = at.queueing.queued;
           parked = at.queueing.parked;

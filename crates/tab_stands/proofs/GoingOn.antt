@@ -8,10 +8,11 @@ use Rattle.move_queue.specs.Queue.{Queue}
 use Rattle.seen_laws.proofs.Cuts.{here_cut, rows_cut}
 use Rattle.seen_laws.proofs.InEvents.{now_is}
 use Rattle.seen_laws.specs.Blocks.{EachPass, Here}
-use Rattle.seen_laws.specs.InEvent.{InEvent, cut, log_of, now_of, start_of, wanting}
+use Rattle.seen_laws.specs.InEvent.{InEvent, cut, log_of, now_of, running, start_of, wanting}
 use Rattle.seen_laws.specs.Unasked.{unasked}
 use Rattle.std.proofs.Common.{Bool, List, [], ap, append-nil, append_assoc, refl, subst, sym, ℕ, ◌++◌, ◌∙◌, ◌≡◌}
 use Rattle.tab_doors.specs.declared.tables.Tables.{Tables}
+use Rattle.tab_ids.specs.declared.DocId.{DocId}
 use Rattle.tab_ids.specs.declared.ReqId.{ReqId}
 use Rattle.tab_ids.specs.declared.StateId.{StateId}
 use Rattle.tab_stands.specs.Checked.{ChecksStand}
@@ -22,8 +23,8 @@ use Rattle.tab_stands.specs.Standing.{HasActed, InCheck, LastsInLog, StandsFor}
 abbrev pub with_checking : InEvent → (ReqId → Bool) → InEvent
 with_checking e checking = record e { checking = checking }
 
--- it is the event, cut behind these rows
-pub goes_is : (e : InEvent) (first : List RowKind) (at : InEvent) → GoesOn e first at → at ≡ wanting (cut e first at.checking at.due) at.wants
+-- it is the event, cut behind these rows, where that run lasts
+pub goes_is : (e : InEvent) (first : List RowKind) (at : InEvent) → GoesOn e first at → at ≡ running (wanting (cut e first at.checking at.due) at.wants) at.ran
 goes_is e first at goes =
     ap (λ (h : Header). record at { header = h }) goes.header
     ∙ ap (λ (s : Seen). record at { header = e.header; start = s }) goes.start
@@ -48,9 +49,9 @@ goes_cut e first at goes out checking due wants =
     }
 
 -- what holds as that one ends holds as the event does, with all rows
-module _ (e : InEvent) (first : List RowKind) (checking : ReqId → Bool) (due : Seen → Bool) (wants : List LogRow → Bool) (more : List RowKind) where
+module _ (e : InEvent) (first : List RowKind) (checking : ReqId → Bool) (due : Seen → Bool) (wants : List LogRow → Bool) (ran : List DocId) (more : List RowKind) where
   abbrev at : InEvent
-  at = wanting (cut e first checking due) wants
+  at = running (wanting (cut e first checking due) wants) ran
 
   same_log : log_of at more ≡ log_of (with_checking e checking) (first ++ more)
   same_log = ap (λ (h : Here). h.now) (here_cut e first checking due more)
@@ -72,4 +73,4 @@ module _ (e : InEvent) (first : List RowKind) (checking : ReqId → Bool) (due :
 
 pub acted_then : (e : InEvent) (first : List RowKind) (at : InEvent) → GoesOn e first at → (more : List RowKind) {check : InCheck} (t : Tables) (queue : Queue) (blame : List (StateId × ReqId)) → HasActed check at more t queue blame → HasActed check (with_checking e at.checking) (first ++ more) t queue blame
 acted_then e first at goes more {check} t queue blame acted =
-    cut_acts e first at.checking at.due at.wants more t queue blame (subst (λ (x : InEvent). HasActed check x more t queue blame) (goes_is e first at goes) acted)
+    cut_acts e first at.checking at.due at.wants at.ran more t queue blame (subst (λ (x : InEvent). HasActed check x more t queue blame) (goes_is e first at goes) acted)

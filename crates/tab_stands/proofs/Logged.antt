@@ -58,7 +58,7 @@ module _ (e : InEvent) (aside : StartsUnasked e) where
 -- where the own row may be logged by itself
 pub with_lawful : (e : InEvent) (checks : List (ReqId × OpenCheck)) → {table : List Load} → IsLogged e checks → LastsInLog e.checking table (log_of e []) → AreLegal e [] → HasLogged e checks table
 with_lawful e checks logged lasts legal =
-    record { logged = logged; lasts = lasts; lawful = lawful_pass (IsToCome None e []) e (noted_by checks []) [] (lawful_legal e [] legal) }
+    record { logged = logged; lasts = lasts; lawful = lawful_pass (IsToCome None e []) e (noted_by e.ran checks []) [] (lawful_legal e [] legal) }
 
 -- ---- what lasts of the log, over an event's own row
 

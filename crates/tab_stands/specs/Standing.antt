@@ -20,7 +20,7 @@ use Rattle.log_model.specs.declared.row_kind.RowKind.{RowKind}
 use Rattle.move_queue.specs.Queue.{Queue}
 use Rattle.row_facts.specs.Owed.Owed.{IsLoose}
 use Rattle.seen_laws.specs.Blocks.{EachPass}
-use Rattle.seen_laws.specs.InEvent.{InEvent, IsTakenIn, here_of, later_of, log_of, now_of, rows_of, seen_here, start_of}
+use Rattle.seen_laws.specs.InEvent.{InEvent, IsTakenIn, OwesNothing, here_of, later_of, log_of, now_of, rows_of, seen_here, start_of}
 use Rattle.std.specs.Prelude.{Bool, List, None, Option, [], false, length, true, ℕ, ◌++◌, ◌+◌, ◌<◌, ◌≡◌}
 use Rattle.tab_settles.specs.PassedOn.{AreCounted, AreHeldUp, AreLeftStrays, AreSteps, HasQueue, InPass, IsPassing, IsTaking, LoadsMadeOwn, ParentsShown, TakersServe}
 use Rattle.tab_doors.specs.declared.tables.Tables.{Tables}
@@ -103,7 +103,7 @@ opened_at address proc =
 -- nothing was put out before, so nothing is owed; nobody is in a check as the event begins, and both then and once its own row was logged the log is as it would be had nobody been asked
 pub record StartsUnasked (e : InEvent) : Type 0 where
   pub uncut : e.before ≡ []
-  pub undue : (end : Seen) → e.due end ≡ true
+  pub undue : OwesNothing e
   pub unchecked : (req : ReqId) → e.checking req ≡ false
   pub begins : seen_here e [] ≡ here_of e []
   pub plain : StartsPlain e

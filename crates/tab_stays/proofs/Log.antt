@@ -40,6 +40,7 @@ use Rattle.tab_answers.proofs.Stays as stays
 use Rattle.tab_doors.specs.Working.{IsToCome}
 use Rattle.tab_ids.specs.declared.ReqId.{ReqId}
 use Rattle.tab_ids.specs.declared.Step.{Step}
+use Rattle.tab_prompts.proofs.Waits.{waits_open}
 use Rattle.tab_prompts.specs.Asking.{BeginsAsked, WasOpen, are_unheard}
 use Rattle.tab_stands.specs.Checked.{ChecksStand}
 use Rattle.tab_stands.specs.Standing.{LastsInLog}
@@ -103,6 +104,10 @@ module _ (e : InEvent) (es : List (ReqId × OpenCheck)) (asks : ChecksStand e.ch
   asking_then =
       asking_ended e.checking (log_of x []) table answered_then.asking req dropped (dropped_ended (log_of x []) e.event actors.Ui req drops.Stay) (λ y at. no_load y at)
     where
+      neither : (b : Bool) → (b && false) ≡ false
+      neither true = refl
+      neither false = refl
+
       no_load : (y : Asked) → request_of (log_of x []) req ≡ Some y → is_ongoing_load y ≡ false
       no_load y at =
           let was = was_asked (λ (z : Asked). z.what) e.start.requests (log_of x []).requests (on_read (λ (z : Asked). z.what) e.start.requests req (λ z. record z { answered = Some true }) (λ z. refl)) req y at in
@@ -110,10 +115,6 @@ module _ (e : InEvent) (es : List (ReqId × OpenCheck)) (asks : ChecksStand e.ch
           let same : q ≡ was.0 = cc in
           let none : is_load y.what ≡ false = ap is_load (sym was.2) ∙ ap (λ (z : Asked). is_load z.what) (sym same) ∙ traversal_no_load q.what stay.goes in
           rw none (neither (is_under_way y))
-
-      neither : (b : Bool) → (b && false) ≡ false
-      neither true = refl
-      neither false = refl
 
   pub stays_lasts : LastsInLog e.checking table dropped
   stays_lasts =
@@ -161,7 +162,7 @@ module _ (e : InEvent) (es : List (ReqId × OpenCheck)) (asks : ChecksStand e.ch
         calm = λ r y found runs goes on. stands_there.none r y found runs goes on refl;
         notes = stands_there.notes;
         unanswered = lasts_there.known.unanswered;
-        opens = at_cut (λ s. (r : ReqId) (y : Asked) → request_of s r ≡ Some y → all_asked s y ≡ false → WasOpen e.start r ⊎ (are_unheard y.asks ≡ true)) opens;
+        opens = λ r y found waits. at_cut (λ s. (r : ReqId) (y : Asked) → request_of s r ≡ Some y → all_asked s y ≡ false → WasOpen e.start r ⊎ (are_unheard y.asks ≡ true)) opens r y found (waits_open _ _ _ (ended req es) stands_there.asked r y found waits);
         there = at_cut (λ s. (r : ReqId) → request_of s r ≡ None → check_of r (ended req es) ≡ None) (λ r none. subst (λ (o : Option Asked). AreTiedAt dropped o (check_of r (ended req es))) none (stays_stand.has.tied.each r));
         finished = at_cut (λ s. s.just_finished ≡ None) refl;
       }

@@ -78,6 +78,12 @@ has_front [] ys y has = absurd has
 has_front (x ∷ xs) ys y (inl same) = inl same
 has_front (x ∷ xs) ys y (inr more) = inr (has_front xs ys y more)
 
+above_one : (a b : ℕ) → (a == b) ≡ false → b ≤ a → 1 ≤ b → nat_lt 1 a ≡ true
+above_one a b apart low one = grind (arith, nat_tests, apart, low, one)
+
+above_none : (a b : ℕ) → b ≤ a → 1 ≤ b → nat_lt 0 a ≡ true
+above_none a b low one = grind (arith, nat_tests, low, one)
+
 -- what the drop of one that was moved owes is paid as it is dropped
 moved_pays : (e : InEvent) (out : List RowKind) (req by : ReqId) (q mover : Asked) → request_of (now_of e out) req ≡ Some q → request_of (now_of e out) by ≡ Some mover → by_mover (now_of e out) q mover ≡ true → (end : Seen) → owes_row (seen_here e out) (row_of e (rows.Dropped req (drops.By by))) end ≡ true
 unfolding now_of
@@ -216,19 +222,13 @@ module _ (p : InPass) (out : List RowKind) (t : Tables) (blame : List (StateId �
     moved_away : was_moved own.place ≡ true
     moved_away = by_status own.place.status refl
       where
-        later : (a b : ℕ) → (a == b) ≡ false → b ≤ a → 1 ≤ b → nat_lt 1 a ≡ true
-        later a b apart_ low one = grind (arith, nat_tests, apart_, low, one)
-
-        some : (a b : ℕ) → b ≤ a → 1 ≤ b → nat_lt 0 a ≡ true
-        some a b low one = grind (arith, nat_tests, low, one)
-
         by_status : (st : Status) → own.place.status ≡ st → was_moved own.place ≡ true
         by_status lost is = absurd ((whole.standing own.d.nav own.place own.placed).unlost is)
-        by_status asleep is = rw is (some own.place.epoch.0 made.epoch.0 within real)
+        by_status asleep is = rw is (above_none own.place.epoch.0 made.epoch.0 within real)
         by_status (awake doc) is =
             let wakes : is_awake own.place ≡ true = rw is refl in
             let apart_ : (own.place.epoch.0 == made.epoch.0) ≡ false = sym (ap (λ (b : Bool). b && own.place.epoch.0 == made.epoch.0) wakes) ∙ away in
-            rw is (later own.place.epoch.0 made.epoch.0 apart_ within real)
+            rw is (above_one own.place.epoch.0 made.epoch.0 apart_ within real)
 
     by_ : IsMovedBy now_ own.place.why own.place.nav
     by_ = whole.movers.away own.d.nav own.place own.placed moved_away

@@ -79,6 +79,9 @@ either : (a b : Bool) → b ≡ true → (a || b) ≡ true
 either true b is = refl
 either false b is = is
 
+other_way : (a b : ℕ) → (a == b) ≡ false → (b == a) ≡ false
+other_way a b apart = grind (arith, nat_tests, apart)
+
 -- one of the navigables passes
 any_nav : (f : NavId → Bool) (navs : List NavId) (x : NavId) → has_nav navs x ≡ true → f x ≡ true → list_any f navs ≡ true
 any_nav f [] x has is = absurd cc
@@ -259,7 +262,7 @@ module _ (p : InPass) (out : List RowKind) (t : Tables) (blame : List (StateId �
   target_own = own_pushed s.history (forms_of s.places) tab.sound tab.hangs.rows new refl
 
   turned : (m : NavId) → (its.d.nav.0 == m.0) ≡ false → (m.0 == its.d.nav.0) ≡ false
-  turned m apart = (let off : (its.d.nav.0 == m.0) ≡ false = apart in grind (arith, nat_tests, off))
+  turned m apart = other_way its.d.nav.0 m.0 apart
 
   row_there : (m : NavId) (row : Row) → target_entry n.history.rows m n.history.current ≡ Some row → has_row m n.history.rows ≡ true
   row_there m row found =

@@ -70,6 +70,9 @@ either : (a b : Bool) → b ≡ true → (a || b) ≡ true
 either true b is = refl
 either false b is = is
 
+is_none : (a : ℕ) → (a == 0) ≡ true → a ≡ 0
+is_none a same = (let k : a ≡ 0 = grind (arith, nat_tests, same) in k)
+
 module _ (p : InPass) (out : List RowKind) (t : Tables) (blame : List (StateId × ReqId)) (made : Made) (at : IsToTake p out t blame made) (told : Tells p out t blame made at verdicts.Now) (nav : NavId) (asked : asked_in t made ≡ Some (changes.RemoveFrame nav)) where
   abbrev s : Seen
   s = now_ p out t blame made at told
@@ -112,7 +115,7 @@ module _ (p : InPass) (out : List RowKind) (t : Tables) (blame : List (StateId �
     where
       by_top : (b : Bool) → (nav.0 == 0) ≡ b → has_row nav s.history.rows ≡ true → (not b && has_row nav s.history.rows) ≡ true
       by_top false e_ has = has
-      by_top true e_ has = absurd (tab.sound.rooted.top_owner nav its.d.state hung (let k : nav.0 ≡ 0 = grind (arith, nat_tests, e_) in k))
+      by_top true e_ has = absurd (tab.sound.rooted.top_owner nav its.d.state hung (is_none nav.0 e_))
 
   -- ---- all goes on
 

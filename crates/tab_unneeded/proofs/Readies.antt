@@ -22,7 +22,7 @@ use Rattle.log_model.specs.declared.outcome.Outcome.{Outcome}
 use Rattle.log_model.specs.declared.row_kind.RowKind.{RowKind}
 use Rattle.move_queue.specs.Queue.{Queue}
 use Rattle.seen_laws.proofs.Sendings.{both}
-use Rattle.seen_laws.specs.InEvent.{InEvent, now_of, row_of}
+use Rattle.seen_laws.specs.InEvent.{InEvent, OwesNothing, now_of, row_of}
 use Rattle.std.proofs.Common.{Bool, List, None, Option, Some, [], ap, false, inl, length, refl, subst, sym, true, ℕ, ◌∙◌, ◌∷◌, ◌≡◌, map, ◌++◌, ◌≤◌}
 use Rattle.std.proofs.lemmas.Bool.{and_parts}
 use Rattle.std.specs.List.{list_any}
@@ -56,7 +56,7 @@ use Rattle.log_model.specs.declared.job.Why.TheVariants as whys
 use Rattle.log_model.specs.declared.made.Report.TheVariants as reports
 use Rattle.log_model.specs.declared.row_kind.RowKind.TheVariants as rows
 
-module _ (e : InEvent) (proc : ProcId) (job : Job) (outcome : Outcome) (del : IsSeenDelivery e proc (reports.Done job outcome None)) (t : Tables) (queue : Queue) (blame : List (StateId × ReqId)) {check : InCheck} (stands : StandsFor check (seen_start e) t queue blame) (aside : IsOwnRead e) (nav : NavId) (state : StateId) (address : List ℕ) (initial : Bool) (task : job.task ≡ tasks.Populate nav state address initial) (why : Why) (unasked : (req : ReqId) → why ≡ whys.Req req → ⊥) (stray : IsStray (now_of e []) job.doc state) (u : Tables) (noted : KeepsRun t u) (first : IsPassing (record { event = e; loads = check.loads; hand = [] }) [] u) (out : List RowKind) (v : Tables) (is : out ≡ rows.Sent (order_to (now_of e []) job.doc why tasks.Discard) ∷ []) (keeps : KeepsStore u v) (leaving : IsLeavingIn check.holds (record { event = e; loads = check.loads; hand = [] }) None [] out v) (header : t.kept.keep ≡ e.header.keep) (uncut : e.before ≡ []) (undue : (end : Seen) → e.due end ≡ true) where
+module _ (e : InEvent) (proc : ProcId) (job : Job) (outcome : Outcome) (del : IsSeenDelivery e proc (reports.Done job outcome None)) (t : Tables) (queue : Queue) (blame : List (StateId × ReqId)) {check : InCheck} (stands : StandsFor check (seen_start e) t queue blame) (aside : IsOwnRead e) (nav : NavId) (state : StateId) (address : List ℕ) (initial : Bool) (task : job.task ≡ tasks.Populate nav state address initial) (why : Why) (unasked : (req : ReqId) → why ≡ whys.Req req → ⊥) (stray : IsStray (now_of e []) job.doc state) (u : Tables) (noted : KeepsRun t u) (first : IsPassing (record { event = e; loads = check.loads; hand = [] }) [] u) (out : List RowKind) (v : Tables) (is : out ≡ rows.Sent (order_to (now_of e []) job.doc why tasks.Discard) ∷ []) (keeps : KeepsStore u v) (leaving : IsLeavingIn check.holds (record { event = e; loads = check.loads; hand = [] }) None [] out v) (header : t.kept.keep ≡ e.header.keep) (uncut : e.before ≡ []) (undue : OwesNothing e) where
   abbrev s : Seen
   s = seen_start e
 

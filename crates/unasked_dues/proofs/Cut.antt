@@ -7,11 +7,12 @@ use Rattle.row_facts.specs.Owed.Owed.{IsLoose, IsOwed, Lasts, Stays, owes_seen}
 use Rattle.seen_laws.proofs.Cuts.{log_cut}
 use Rattle.seen_laws.proofs.InEvents.{on_rows_append}
 use Rattle.seen_laws.specs.Blocks.{Here, on_rows}
-use Rattle.seen_laws.specs.InEvent.{InEvent, cut, first_of, later_of, now_of, own_of, row_of, wanting}
+use Rattle.seen_laws.specs.InEvent.{InEvent, cut, first_of, later_of, now_of, own_of, row_of, running, wanting}
 use Rattle.seen_laws.specs.Owing.{owes, owes_row}
 use Rattle.seen_laws.specs.Unasked.{unasked}
 use Rattle.std.proofs.Common.{Bool, List, Option, [], ap, append_assoc, map, refl, subst, sym, true, ◌++◌, ◌∙◌, ◌∷◌, ◌≡◌}
 use Rattle.std.proofs.lemmas.List.{map-append}
+use Rattle.tab_ids.specs.declared.DocId.{DocId}
 use Rattle.tab_ids.specs.declared.ReqId.{ReqId}
 use Rattle.tab_ids.specs.declared.Step.{Step}
 use Rattle.unasked_dues.proofs.Paid.{paid_read}
@@ -95,11 +96,11 @@ module _ (e : InEvent) (out : List RowKind) (checking : ReqId → Bool) (due : S
       parts end are =
           record { old = first_sole e (own_of e) e.before out end (as_was end are); new = second_sole e (own_of e) e.before out end (as_was end are) }
 
--- ---- whatever is wanted of the rows behind the cut
+-- ---- whatever is wanted of the rows behind the cut, and whichever run of discarded documents lasts there
 
-module _ (e : InEvent) (wants : List LogRow → Bool) where
+module _ (e : InEvent) (wants : List LogRow → Bool) (ran : List DocId) where
   abbrev wanting_so : InEvent
-  wanting_so = wanting e wants
+  wanting_so = running (wanting e wants) ran
 
   sole_so : (from : Here) (kinds : List RowKind) (end : Seen) → AreSole e from kinds end → AreSole wanting_so from kinds end
   sole_so from kinds end are = record { each = λ before later req goal is. are.each before later req goal is }

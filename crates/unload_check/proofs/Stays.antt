@@ -1,7 +1,8 @@
 -- What a call leaves as it was: the checks of other requests, and those that are settled.
-use Rattle.std.proofs.Common.{◌≡◌, true, false, not, List, [], ◌∷◌, Some, Result, Ok, Err, OnOk, refl, ap, arith, cond, if◌then◌else◌}
+use Rattle.std.proofs.Common.{◌≡◌, Bool, true, false, not, List, [], ◌∷◌, Option, Some, Result, Ok, Err, OnOk, refl, ap, arith, cond, if◌then◌else◌}
 use Rattle.std.proofs.lemmas.Bool.Decides.{nat_tests}
 use Rattle.std.specs.Option.{option_map_or}
+use Rattle.std.specs.Prelude.{option_map}
 use Rattle.tab_ids.specs.declared.DocId.{DocId}
 use Rattle.tab_ids.specs.declared.ReqId.{ReqId}
 use Rattle.log_model.specs.declared.handler.Verdict.{Verdict}
@@ -68,6 +69,16 @@ settled_deaths docs (e ∷ es) other settled =
       | true ↦ λ is. ap (λ (c : OpenCheck). Some c) (deaths_stay docs e.1 is)
       | false ↦ λ is. settled_deaths docs es other is
     ]) settled
+
+-- ---- the check of one request, after deaths
+
+pub check_dead : (req : ReqId) (docs : List DocId) (es : List (ReqId × OpenCheck)) → check_of req (after_all_deaths docs es) ≡ option_map (after_deaths docs) (check_of req es)
+check_dead req docs [] = refl
+check_dead req docs (e ∷ es) = by_test (is_req req e.0) (check_dead req docs es)
+  where
+    by_test : (b : Bool) → check_of req (after_all_deaths docs es) ≡ option_map (after_deaths docs) (check_of req es) → cond b (Some (after_deaths docs e.1)) (check_of req (after_all_deaths docs es)) ≡ option_map (after_deaths docs) (cond b (Some e.1) (check_of req es))
+    by_test true more = refl
+    by_test false more = more
 
 -- what follows from a fact for an Ok holds for it
 pub on_ok : {T E : Type 0} (r : Result T E) (P Q : Type 0) → (P → Q) → OnOk r P → OnOk r Q

@@ -72,6 +72,21 @@ impl RequestCheck {
         bury_all(self.asked.as_mut_slice(), docs);
     }
 
+    /// What it would come to, were these documents to die.
+    pub(crate) fn outcome_after(&self, alloc: Global, docs: &Docs) -> Result<Check, OutOfMemory>
+        ensures { IfOk result (λ check. check ≡ spec.outcome_of (spec.after_deaths docs.now self.now)) }
+    {
+        if self.is_settled() {
+            return Ok(self.outcome());
+        }
+        let asked = buried(alloc, self.asked.as_slice(), docs)?;
+        let check = RequestCheck {
+            asked,
+            stay: self.stay,
+        };
+        Ok(check.outcome())
+    }
+
     /// Notes the user's word where the prompt is up; whether it is.
     pub(crate) fn user(&mut self, stay: bool) -> bool
         ensures up { result ≡ spec.is_prompting (spec.outcome_of self.old) }
@@ -90,6 +105,17 @@ fn ask_all(alloc: Global, docs: &[DocId]) -> Result<Vec<AskedDoc>, OutOfMemory>
     ensures { IfOk result (λ asked. asked.items ≡ map spec.newly_asked docs.now) }
 {
     let asked = docs.iter().map(|doc| AskedDoc::new(*doc)).collect(alloc)?;
+    Ok(asked)
+}
+
+/// The same documents, after deaths.
+fn buried(alloc: Global, all: &[AskedDoc], docs: &Docs) -> Result<Vec<AskedDoc>, OutOfMemory>
+    ensures { IfOk result (λ asked. asked.items ≡ map (spec.dead_doc docs.now) all.now) }
+{
+    let asked = all
+        .iter()
+        .map(|asked| asked.after_deaths(docs))
+        .collect(alloc)?;
     Ok(asked)
 }
 

@@ -1,5 +1,5 @@
 //! `UnloadCheck`, which a contract sees as the list of all requests' checks.
-ghost use Rattle.std.specs.Prelude.{◌≡◌, [], OnOk, OnErr};
+ghost use Rattle.std.specs.Prelude.{◌≡◌, [], IfOk, OnOk, OnErr};
 ghost use Rattle.unload_check.specs.Checks as spec;
 
 use crate::check::Check;
@@ -86,6 +86,18 @@ impl UnloadCheck {
         }
     }
 
+    /// What the request's check would come to, were these documents to die or be discarded, all at once. The checks stay as they are.
+    pub fn outcome_after(
+        &self,
+        alloc: Global,
+        req: ReqId,
+        docs: &Docs,
+    ) -> Result<Option<Check>, OutOfMemory>
+        ensures { IfOk result (λ check. check ≡ spec.outcome_at req (spec.after_all_deaths docs.now self.now)) }
+    {
+        outcome_in(&self.checks, alloc, req, docs)
+    }
+
     /// Ends the check of a request.
     pub fn end(&mut self, req: ReqId)
         ensures ended { self.new ≡ spec.ended req self.old }
@@ -146,6 +158,24 @@ fn die_at(checks: &mut IndexMap<ReqId, RequestCheck>, place: usize, docs: &Docs)
     match checks.get_index_mut(place) {
         Some(check) => check.died(docs),
         None => (),
+    }
+}
+
+/// What a check would come to after deaths.
+fn outcome_in(
+    checks: &IndexMap<ReqId, RequestCheck>,
+    alloc: Global,
+    req: ReqId,
+    docs: &Docs,
+) -> Result<Option<Check>, OutOfMemory>
+    ensures { IfOk result (λ check. check ≡ spec.outcome_at req (spec.after_all_deaths docs.now checks.now.entries)) }
+{
+    match checks.get(&req) {
+        Some(check) => {
+            let outcome = check.outcome_after(alloc, docs)?;
+            Ok(Some(outcome))
+        }
+        None => Ok(None),
     }
 }
 

@@ -23,7 +23,7 @@ use Rattle.log_model.specs.Seen.{Asked, Document, Place, Seen, document_of, plac
 use Rattle.nav_tree.specs.Tree.{document_of as document_at}
 use Rattle.nav_tree.specs.declared.place.Place as live_place
 use Rattle.seen_facts.proofs.Rest.Still.{found_itself}
-use Rattle.seen_laws.specs.InEvent.{InEvent, now_of}
+use Rattle.seen_laws.specs.InEvent.{InEvent, log_of, now_of}
 use Rattle.seen_laws.specs.Unasked.{unhandled}
 use Rattle.std.proofs.Common.{Bool, List, None, Option, Some, [], ap, arith, false, map, not, refl, subst, sym, true, ℕ, ◌&&◌, ◌==◌, ◌||◌, ◌∙◌, ◌≡◌}
 use Rattle.std.proofs.lemmas.Bool.Decides.{nat_tests}

@@ -131,16 +131,16 @@ module _ (sweeps : Bool) (e : InEvent) (t u : Tables) (doc : DocId) (state : Sta
       there : document_of (log_of e []) doc ≡ Some left.d
       there = left.discards.to.found
 
-      asked_then : u.checks ≡ t.checks → AreAskedDuly e.checking e.start (log_of e (rows.Sent order ∷ [])) (told_by u.checks (rows.Sent order ∷ []))
+      asked_then : u.checks ≡ t.checks → AreAskedDuly e.checking e.start (log_of e (rows.Sent order ∷ [])) (told_by e.ran u.checks (rows.Sent order ∷ []))
       asked_then same =
-          subst (λ (x : Seen). AreAskedDuly e.checking e.start x (told_by u.checks (rows.Sent order ∷ []))) (sym (log_more e [] (rows.Sent order)))
-          (subst (λ (es : List (ReqId × OpenCheck)). AreAskedDuly e.checking e.start (after (log_of e []) (row_of e (rows.Sent order))) (told_by es (rows.Sent order ∷ []))) (sym same)
-          (more_duly e [] (told_by t.checks []) its.logged.asked (rows.Sent order) (left.d, there) (discard_quiet e order refl) (keeps_held e [] (rows.Sent order) refl refl) (IsAhead None) (IsAhead None) (λ later is. tt) (subst (λ (x : Seen). AllOthersPass e.checking x) (log_more e [] (rows.Sent order)) checks_.others)))
+          subst (λ (x : Seen). AreAskedDuly e.checking e.start x (told_by e.ran u.checks (rows.Sent order ∷ []))) (sym (log_more e [] (rows.Sent order)))
+          (subst (λ (es : List (ReqId × OpenCheck)). AreAskedDuly e.checking e.start (after (log_of e []) (row_of e (rows.Sent order))) (told_by e.ran es (rows.Sent order ∷ []))) (sym same)
+          (more_duly e [] (told_by e.ran t.checks []) its.logged.asked (rows.Sent order) (left.d, there) (discard_quiet e order refl) (keeps_held e [] (rows.Sent order) refl refl) (IsAhead None) (IsAhead None) (λ later is. tt) (subst (λ (x : Seen). AllOthersPass e.checking x) (log_more e [] (rows.Sent order)) checks_.others)))
 
-      passes_then : u.checks ≡ t.checks → PassIf (IsToCome None e (rows.Sent order ∷ [])) e (noted_by u.checks (rows.Sent order ∷ [])) (rows.Sent order ∷ [])
+      passes_then : u.checks ≡ t.checks → PassIf (IsToCome None e (rows.Sent order ∷ [])) e (noted_by e.ran u.checks (rows.Sent order ∷ [])) (rows.Sent order ∷ [])
       passes_then same =
-          subst (λ (es : List (ReqId × OpenCheck)). PassIf (IsToCome None e (rows.Sent order ∷ [])) e (noted_by es (rows.Sent order ∷ [])) (rows.Sent order ∷ [])) (sym same)
-          (more_pass e [] (told_by t.checks []) its.logged.asked (rows.Sent order) (left.d, there) (discard_quiet e order refl) (keeps_held e [] (rows.Sent order) refl refl) (IsDiscardedLater doc) (IsToCome None e (rows.Sent order ∷ [])) (λ later is. discarded_next e t doc state its later) (own_passes e t doc state its (noted_in (told_by t.checks []))) (λ later asks rest prompts. second_passes e t doc state its later prompts))
+          subst (λ (es : List (ReqId × OpenCheck)). PassIf (IsToCome None e (rows.Sent order ∷ [])) e (noted_by e.ran es (rows.Sent order ∷ [])) (rows.Sent order ∷ [])) (sym same)
+          (more_pass e [] (told_by e.ran t.checks []) its.logged.asked (rows.Sent order) (left.d, there) (discard_quiet e order refl) (keeps_held e [] (rows.Sent order) refl refl) (IsDiscardedLater doc) (IsToCome None e (rows.Sent order ∷ [])) (λ later is. discarded_next e t doc state its later) (own_passes e t doc state its (noted_in (told_by e.ran t.checks []))) (λ later asks rest prompts. second_passes e t doc state its later prompts))
 
 -- ---- the order that is counted and put out
 

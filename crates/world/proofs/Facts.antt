@@ -170,7 +170,7 @@ module _ (header : Header) (log : List LogRow) (t : State) (is : IsOpen header l
   -- an event may begin
   pub open_to : (actor : Actor) (own : RowKind) → IsOpenTo (event_of header log actor own) t.coordinator
   open_to actor own =
-      record { in_ = record { header = is.header_is; stands = stands.but; room = room; uncut = refl; undue = λ end. refl; unwanted = λ behind. refl; unchecked = refl }; slots = stands.slots }
+      record { in_ = record { header = is.header_is; stands = stands.but; room = room; uncut = refl; undue = record { due = λ end. refl; ran = refl }; unwanted = λ behind. refl; unchecked = refl }; slots = stands.slots }
 
   pub are_of : AreOf (seen_of log) t.coordinator t.runners
   are_of = record { stands = stands; room = room; told = is.holds.runners }

@@ -25,7 +25,7 @@ use Rattle.world.specs.Open.{bare}
 -- the next event of a log, with its own row
 abbrev pub event_of : Header → List LogRow → Actor → RowKind → InEvent
 event_of header log actor own =
-    record { header = bare header; start = seen_of log; event = (seen_of log).events; actor = actor; own = own; before = []; checking = nobody; due = λ end. true; wants = λ behind. true }
+    record { header = bare header; start = seen_of log; event = (seen_of log).events; actor = actor; own = own; before = []; ran = []; checking = nobody; due = λ end. true; wants = λ behind. true }
 
 -- the event in which the user asks for this
 abbrev pub event_asking : Ask → Event

@@ -6,10 +6,11 @@ use Rattle.log_model.specs.declared.row_kind.RowKind.{RowKind}
 use Rattle.row_facts.specs.FrameRows.Lawful.{AreLawful, IsRestOf}
 use Rattle.seen_laws.proofs.Cuts.{later_cut, log_cut, rows_cut}
 use Rattle.seen_laws.specs.Blocks.{EachPass}
-use Rattle.seen_laws.specs.InEvent.{InEvent, IsTakenIn, begins, cut, later_of, now_of, rows_of, start_of, wanting}
+use Rattle.seen_laws.specs.InEvent.{InEvent, IsTakenIn, begins, cut, later_of, now_of, rows_of, running, start_of, wanting}
 use Rattle.seen_laws.specs.Owing.{Pays}
 use Rattle.std.proofs.Common.{Bool, List, [], ap, append-nil, subst, sym, true, ◌++◌, ◌∙◌, ◌≡◌}
 use Rattle.std.specs.List.{list_any}
+use Rattle.tab_ids.specs.declared.DocId.{DocId}
 use Rattle.tab_ids.specs.declared.ReqId.{ReqId}
 
 module _ (e : InEvent) (out : List RowKind) (checking : ReqId → Bool) (due : Seen → Bool) where
@@ -45,10 +46,10 @@ module _ (e : InEvent) (out : List RowKind) (checking : ReqId → Bool) (due : S
   lawful_cut lawful later rest =
       subst (λ (l : List LogRow). EachPass (start_of e) l later) (sym same_rows) (lawful later (rest_cut later rest))
 
--- what is wanted of the rows behind a cut is no part of what rows ask of later ones
-pub rest_wanting : (e : InEvent) (wants : List LogRow → Bool) (out : List RowKind) (later : List LogRow) → IsRestOf (wanting e wants) out later → IsRestOf e out later
+-- what is wanted of the rows behind a cut, and which run of discarded documents lasts there, is no part of what rows ask of later ones
+pub rest_wanting : (e : InEvent) (wants : List LogRow → Bool) (ran : List DocId) (out : List RowKind) (later : List LogRow) → IsRestOf (running (wanting e wants) ran) out later → IsRestOf e out later
 unfolding now_of
-rest_wanting e wants out later rest =
+rest_wanting e wants ran out later rest =
     record {
       rest = record {
         asks = rest.rest.asks;

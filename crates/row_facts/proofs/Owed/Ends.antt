@@ -5,7 +5,7 @@ use Rattle.log_model.specs.Seen.{Asked, Seen}
 use Rattle.log_model.specs.declared.row_kind.RowKind.{RowKind}
 use Rattle.row_facts.specs.Owed.Owed.{IsLoose, IsOwed, Lasts, Stays, owes_from, owes_seen}
 use Rattle.seen_laws.proofs.InEvents.{now_more}
-use Rattle.seen_laws.specs.InEvent.{InEvent, IsReadOff, now_of, row_of, seen_here}
+use Rattle.seen_laws.specs.InEvent.{InEvent, IsReadOff, OwesNothing, now_of, row_of, seen_here}
 use Rattle.seen_laws.specs.Owing.{owes_row}
 use Rattle.std.proofs.Common.{Bool, List, [], append-nil, append_assoc, refl, subst, sym, true, ◌&&◌, ◌++◌, ◌∙◌, ◌∷◌, ◌≡◌}
 use Rattle.std.proofs.lemmas.Bool.{and_parts}
@@ -107,5 +107,5 @@ loose_more e out kind read loose lasts own =
     loose_since e out kind read (λ end then_. loose end (lasts_trans (now_of e out) (after (now_of e out) (row_of e kind)) end lasts then_)) own
 
 -- where the rows before the cut owe nothing, nothing is owed before any row is put out
-pub loose_first : (e : InEvent) → ((end : Seen) → e.due end ≡ true) → IsLoose e []
-loose_first e undue end on = rw (undue end) refl
+pub loose_first : (e : InEvent) → OwesNothing e → IsLoose e []
+loose_first e undue end on = rw (undue.due end) refl
