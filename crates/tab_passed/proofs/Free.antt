@@ -1,4 +1,4 @@
--- A traversal passes its check: no step under way is in its check any more, since no other traversal was under way beside it.
+-- A request passes its check: no step under way is in its check, if none was; and where it is a traversal none is any more, since no other one was under way beside it.
 use Rattle.checking_facts.specs.Checks.{AreInCheck, SameBut}
 use Rattle.log_model.specs.Places.{is_traversal, is_under_way}
 use Rattle.log_model.specs.Queue.{is_step_under_way}
@@ -25,6 +25,19 @@ never_reload (requests.Go delta) is = refl
 never_reload (requests.Load nav mode address) is = refl
 never_reload (requests.Poke nav action) is = refl
 never_reload (requests.Reload nav) never = absurd never
+
+-- no step was, and none enters
+pub still_none : (was passed : ReqId → Bool) (s t : Seen) (req : ReqId) → passed req ≡ false → SameBut req was passed → SameReads is_step_under_way s.requests t.requests → NoStepChecks was s → NoStepChecks passed t
+still_none was passed s t req off same reads none r x found in_ = by_number (r.0 == req.0) refl
+  where
+    by_number : (b : Bool) → (r.0 == req.0) ≡ b → is_step_under_way x ≡ false
+    by_number false apart =
+        let old = was_asked is_step_under_way s.requests t.requests reads r x found in
+        sym old.2 ∙ none r old.0 old.1 (sym (same r apart) ∙ in_)
+    by_number true e =
+        let one : r ≡ req = (let n : r.0 ≡ req.0 = grind (arith, nat_tests, e) in ap (λ i. let y : ReqId = record { 0 = i } in y) n) in
+        let never : true ≡ false = sym in_ ∙ ap passed one ∙ off in
+        absurd cc
 
 module _ (was passed : ReqId → Bool) (s : Seen) (are : AreInCheck was s) (plain : EachAsked IsAskedPlainly (unasked was s).requests) (req : ReqId) (q : Asked) (at : request_of s req ≡ Some q) (under : is_under_way q ≡ true) (goes : is_traversal q.what ≡ true) (on : was req ≡ true) (off : passed req ≡ false) (same : SameBut req was passed) where
   -- whatever the log without questions has of it, it asks the same

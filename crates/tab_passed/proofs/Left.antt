@@ -1,6 +1,4 @@
--- The user leaves, as an event's own row: what the row leaves as the traversal passes its check.
-use Rattle.tab_doors.proofs.Keeping.{no_load_at, traversal_no_load}
-use Rattle.tab_doors.proofs.AskingLoads.{asking_passed}
+-- The user leaves, as an event's own row: what the row leaves as the request passes its check.
 use Rattle.load_table.specs.declared.load.Load.{Load}
 use Rattle.asking_facts.proofs.Answered.{answered_pass, found_one, leave_comes, left_checks, left_duly, left_none, left_passes}
 use Rattle.asking_facts.proofs.Passed.{known_on}
@@ -11,18 +9,16 @@ use Rattle.checking_facts.specs.Prompts.{AreAskedDuly, noted_by}
 use Rattle.log_model.specs.After.{after}
 use Rattle.log_model.specs.Checks.{is_checked}
 use Rattle.log_model.specs.Formed.{awaits_answer}
-use Rattle.log_model.specs.Places.{has_passed, is_load, is_reload, is_under_way}
+use Rattle.log_model.specs.Places.{has_passed, is_under_way}
 use Rattle.log_model.specs.Queue.{is_step_under_way}
 use Rattle.log_model.specs.Seen.{Asked, Seen, request_of}
 use Rattle.log_model.specs.declared.row_kind.Actor.TheVariants as actors
 use Rattle.log_model.specs.declared.row_kind.RowKind.TheVariants as rows
-use Rattle.seen_facts.proofs.Request.Readers.{on_read}
-use Rattle.seen_facts.specs.Asked.Asking.{IsAskedPlainly}
-use Rattle.seen_facts.specs.Each.Runs.{EachAsked}
+use Rattle.seen_facts.proofs.Coord.Held.{on_else}
+use Rattle.seen_facts.proofs.Request.Readers.{SameReads, on_read}
 use Rattle.seen_laws.proofs.InEvents.{now_is}
 use Rattle.seen_laws.specs.InEvent.{InEvent, OwesNothing, log_of, row_of}
-use Rattle.seen_laws.specs.Unasked.{unasked}
-use Rattle.std.proofs.Common.{Bool, List, None, Some, [], false, not, refl, subst, sym, true, ◌&&◌, ◌||◌, ◌∙◌, ◌≡◌}
+use Rattle.std.proofs.Common.{Bool, List, None, Some, [], ap, false, not, refl, subst, sym, true, ◌&&◌, ◌==◌, ◌∙◌, ◌≡◌}
 use Rattle.std.proofs.lemmas.Bool.{and_parts}
 use Rattle.std.specs.Prelude.{is_none, is_some}
 use Rattle.tab_answers.proofs.Events.{plain, plain_is}
@@ -32,14 +28,12 @@ use Rattle.tab_answers.proofs.Stood.{answered_quiet}
 use Rattle.tab_doors.specs.Working.{IsToCome}
 use Rattle.tab_ids.specs.declared.DocId.{DocId}
 use Rattle.tab_ids.specs.declared.ReqId.{ReqId}
-use Rattle.tab_ids.specs.declared.Step.{Step}
-use Rattle.tab_passed.proofs.Free.{no_steps}
-use Rattle.tab_passed.specs.Passing.{HasPassedBy, IsToPass}
+use Rattle.tab_passed.specs.Passing.{HasPassedBy, LeavesAsking, PassesCheck}
 use Rattle.tab_stands.specs.Checked.{ChecksStand}
 use Rattle.tab_stands.specs.Standing.{LastsInLog}
 use Rattle.unload_check.specs.Checks.{OpenCheck, ended}
 
-module _ (was : ReqId → Bool) (e : InEvent) (es : List (ReqId × OpenCheck)) (asks : ChecksStand was e.start es) {table : List Load} (lasts : LastsInLog was table e.start) (each : EachAsked IsAskedPlainly (unasked was e.start).requests) (uncut : e.before ≡ []) (undue : OwesNothing e) (req : ReqId) (q : Asked) (goal : Step) (pass : IsToPass was e req q goal) (by_user : e.actor ≡ actors.Ui) (own : e.own ≡ rows.Answered req false) (awaits : awaits_answer q ≡ true) where
+module _ (was : ReqId → Bool) (e : InEvent) (es : List (ReqId × OpenCheck)) (asks : ChecksStand was e.start es) {table next : List Load} (lasts : LastsInLog was table e.start) (uncut : e.before ≡ []) (undue : OwesNothing e) (req : ReqId) (q : Asked) (pass : PassesCheck was e req q) (leaves : LeavesAsking was e.checking req q.what table next) (by_user : e.actor ≡ actors.Ui) (own : e.own ≡ rows.Answered req false) (awaits : awaits_answer q ≡ true) where
   -- the event
   abbrev x : InEvent
   x = plain e actors.Ui (rows.Answered req false)
@@ -49,11 +43,7 @@ module _ (was : ReqId → Bool) (e : InEvent) (es : List (ReqId × OpenCheck)) (
   t = after e.start (row_of x (rows.Answered req false))
 
   checked : is_checked q ≡ true
-  checked = rw pass.goes (either (is_load q.what) (is_reload q.what))
-    where
-      either : (a b : Bool) → (a || true || b) ≡ true
-      either true b = refl
-      either false b = refl
+  checked = (lasts.checks.checks req q pass.at pass.on).checked
 
   up : is_some q.prompted ≡ true
   up = (and_parts (is_some q.prompted) (is_none q.answered) (and_parts (is_some q.prompted && is_none q.answered) (is_none q.ending) awaits).0).0
@@ -85,11 +75,18 @@ module _ (was : ReqId → Bool) (e : InEvent) (es : List (ReqId × OpenCheck)) (
       let same : record q { answered = Some false } ≡ y = cc in
       subst (λ (z : Asked). has_passed t z ≡ true) same (left_passes was e.start e.event req false es began q pass.at up numbered refl)
 
-  left_lasts : LastsInLog e.checking table t
+  -- it asks for what it asked for
+  whats : (y : Asked) → request_of t req ≡ Some y → y.what ≡ q.what
+  whats y at =
+      let both : Some (record q { answered = Some false }) ≡ Some y = sym (found_one was e.start e.event req false es began q pass.at up numbered) ∙ at in
+      let same : record q { answered = Some false } ≡ y = cc in
+      ap (λ (z : Asked). z.what) (sym same)
+
+  left_lasts : LastsInLog e.checking next t
   left_lasts =
       record {
         checks = left_checks was e.start e.event req pass.on q pass.at e.checking pass.same pass.off has lasts.checks;
-        asking = asking_passed was t table as_it_was.asking req e.checking pass.same pass.off (no_load_at t req (record q { answered = Some false }) (found_one was e.start e.event req false es began q pass.at up numbered) (traversal_no_load q.what pass.goes));
+        asking = leaves t whats as_it_was.asking;
         shows = as_it_was.shows;
         duly = as_it_was.duly;
         known = as_it_was.known;
@@ -97,7 +94,7 @@ module _ (was : ReqId → Bool) (e : InEvent) (es : List (ReqId × OpenCheck)) (
 
   -- ---- all of it
 
-  plainly : HasPassedBy x (ended req es) table
+  plainly : HasPassedBy x (ended req es) next
   plainly =
       record {
         uncut = refl;
@@ -108,12 +105,21 @@ module _ (was : ReqId → Bool) (e : InEvent) (es : List (ReqId × OpenCheck)) (
         unseen = now_is x [] ∙ answered_quiet e.checking e.start e.event actors.Ui req false;
         lasts = left_lasts;
         calm = left_none was e.start e.event req pass.on q pass.at e.checking pass.same pass.off asks.calm;
-        free = no_steps was e.checking e.start lasts.checks each req q pass.at under pass.goes pass.on pass.off pass.same t (on_read is_step_under_way e.start.requests req (λ (y : Asked). record y { answered = Some false }) (λ y. refl));
         asked = subst (λ (docs : List DocId). AreAskedDuly e.checking e.start (log_of x []) (record { checks = ended req es; run = docs })) (sym undue.ran) (left_duly was e.start e.event req false es began q pass.at up numbered e.checking pass.same refl);
         lawful = answered_pass (IsToCome None x []) x req false q (noted_by e.ran (ended req es) []) refl refl refl pass.at awaits (λ later rest. leave_comes x req later);
         takes = λ later. refl;
       }
 
-  pub left_passed : HasPassedBy e (ended req es) table
+  -- the same steps are under way
+  pub left_steps : SameReads is_step_under_way e.start.requests (log_of e []).requests
+  left_steps =
+      subst (λ (y : InEvent). SameReads is_step_under_way e.start.requests (log_of y []).requests) (plain_is e actors.Ui (rows.Answered req false) by_user own uncut) (on_read is_step_under_way e.start.requests req (λ (y : Asked). record y { answered = Some false }) (λ y. refl))
+
+  -- each other request is as it was
+  pub left_others : (r : ReqId) → (r.0 == req.0) ≡ false → request_of (log_of e []) r ≡ request_of e.start r
+  left_others r apart =
+      subst (λ (y : InEvent). request_of (log_of y []) r ≡ request_of e.start r) (plain_is e actors.Ui (rows.Answered req false) by_user own uncut) (on_else e.start.requests req (λ (y : Asked). record y { answered = Some false }) r apart)
+
+  pub left_passed : HasPassedBy e (ended req es) next
   left_passed =
-      subst (λ (y : InEvent). HasPassedBy y (ended req es) table) (plain_is e actors.Ui (rows.Answered req false) by_user own uncut) plainly
+      subst (λ (y : InEvent). HasPassedBy y (ended req es) next) (plain_is e actors.Ui (rows.Answered req false) by_user own uncut) plainly

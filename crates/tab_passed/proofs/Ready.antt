@@ -70,6 +70,7 @@ work_passed e u at tied =
       sole = sole_own e (log_of e []) at.uncut;
       debts = debts_own e at.uncut;
       checks = at.lasts.checks;
+      asking = at.lasts.asking;
       calm = at.calm;
       unheld = λ free. free;
       off = λ row has. absurd has;
@@ -79,7 +80,6 @@ work_passed e u at tied =
       few = tied.few;
       initial = tied.initial;
       loads = tied.loads;
-      asking = at.lasts.asking;
       kept = tied.kept;
       asked = at.asked;
       lawful = at.lawful;
@@ -92,14 +92,14 @@ first_has (r ∷ reqs) req first =
     let one : r ≡ req = cc in
     (let same : (r.0 == req.0) ≡ true = ap (λ (x : ReqId). r.0 == x.0) (sym one) ∙ nat_eq_refl r.0 in rw same refl)
 
--- the log without questions as the own row leaves it, but for that the traversal hasn't begun: there are as many requests as the event began with, all is as after a pass, whoever is awake was so as the event began, and the other way round
+-- the log without questions as the own row leaves it, but for that the request hasn't begun: there are as many requests as the event began with, all is as after a pass, whoever is awake was so as the event began, and the other way round
 pub record IsBefore (e : InEvent) (s : Seen) : Type 0 where
   pub many : length s.requests ≡ length e.start.requests
   pub passed : HasPassed e s
   pub unwoken : AwakeSince e.start [] s
   pub still : StillAwake e.start s
 
-module _ (e : InEvent) (t : Tables) (queue : Queue) (blame : List (StateId × ReqId)) {check : InCheck} (s : Seen) (stands_s : StandsFor check s t queue blame) (at_start : IsBefore e s) (holds : check.holds ≡ true) (room : HasRoomFor e.start) (header : t.kept.keep ≡ e.header.keep) (req : ReqId) (p q : Asked) (goal : Step) (there : request_of s req ≡ Some p) (goes : is_traversal p.what ≡ true) (open_ : p.ending ≡ None) (unstarted : p.is_started ≡ false) (starts : q.is_started ≡ true) (to : q.goal ≡ Some goal) (delta : ℤ) (rest : List QueueStep) (front : IsInFront queue req delta rest) (checks : List (ReqId × OpenCheck)) (own : HasPassedBy e checks t.asking) (now : now_of e [] ≡ with_begun s req q) where
+module _ (e : InEvent) (t : Tables) (queue : Queue) (blame : List (StateId × ReqId)) {check : InCheck} (s : Seen) (stands_s : StandsFor check s t queue blame) (at_start : IsBefore e s) (holds : check.holds ≡ true) (room : HasRoomFor e.start) (header : t.kept.keep ≡ e.header.keep) (req : ReqId) (p q : Asked) (goal : Step) (there : request_of s req ≡ Some p) (goes : is_traversal p.what ≡ true) (open_ : p.ending ≡ None) (unstarted : p.is_started ≡ false) (starts : q.is_started ≡ true) (to : q.goal ≡ Some goal) (delta : ℤ) (rest : List QueueStep) (front : IsInFront queue req delta rest) (checks : List (ReqId × OpenCheck)) (own : HasPassedBy e checks t.asking) (free : NoStepChecks e.checking (log_of e [])) (now : now_of e [] ≡ with_begun s req q) where
   idle : t.running ≡ None
   idle = stands_s.alone holds
 
@@ -227,8 +227,8 @@ module _ (e : InEvent) (t : Tables) (queue : Queue) (blame : List (StateId × Re
 
   -- ---- a pass may follow
 
-  pub passed_ready : NoStepChecks e.checking (log_of e []) → IsReady (record { event = e; loads = check.loads; hand = [] }) [] (passed_tables t req goal checks) (record queue { waiting = rest }) blame (whys.Req req)
-  passed_ready free =
+  pub passed_ready : IsReady (record { event = e; loads = check.loads; hand = [] }) [] (passed_tables t req goal checks) (record queue { waiting = rest }) blame (whys.Req req)
+  passed_ready =
       record {
         passing = passing;
         empty = refl;
@@ -265,7 +265,8 @@ module _ (e : InEvent) (t : Tables) (queue : Queue) (blame : List (StateId × Re
   past_check =
       record {
         own = own;
-        ready = passed_ready own.free;
+        free = free;
+        ready = passed_ready;
         loose = loose;
         makes = subst (λ (x : Seen). MakesServe x) (sym now) makes_n;
         sound = subst (λ (x : Seen). OrdersAreSound x) (sym now) sound_n;

@@ -1,0 +1,16 @@
+pub mod Fresh
+pub mod Begun
+pub mod Taking
+pub mod Makes
+pub mod Sent
+pub mod Kept
+pub mod Lives
+pub mod Queues
+pub mod Follows
+pub mod Settled
+pub mod Start
+pub mod Held
+pub mod Past
+pub mod Calls
+pub mod Ends
+pub mod Asking

@@ -1,0 +1,18 @@
+use Rattle.load_passed.proofs.Calls.{checks_now, home_now, make_now, past_now}
+use Rattle.load_passed.proofs.passing.pass_load.Goals as goal
+use Rattle.std.proofs.Common.{refl}
+
+pub home_there-proc-requires : goal.home_there-proc-requires
+home_there-proc-requires g c =
+    home_now g.l _ _ _ _ _ c.requires.1.1.0 _ _ _ c.in_ok-own.ensures c.requires.1.1.1 c.in_ok-begin_passed.ensures.tables c.args.header.now c.args.address.now
+
+pub make_load-requires : goal.make_load-requires
+make_load-requires g c =
+    make_now g.l _ _ _ _ _ c.requires.1.1.0 _ _ _ c.in_ok-own.ensures c.requires.1.1.1 c.in_ok-begin_passed.ensures.tables _ c.requires.0 _ refl _ c.home_there-proc.ensures _ c.requires.1.0 _ c.in_ok-target.ensures
+
+pub returns : goal.returns
+returns g c =
+    record {
+      past = past_now g.l _ _ _ _ _ c.requires.1.1.0 _ _ _ c.in_ok-own.ensures c.requires.1.1.1 c.in_ok-begin_passed.ensures.tables _ c.requires.0 _ refl _ c.home_there-proc.ensures _ c.requires.1.0 _ c.in_ok-target.ensures _ _ c.in_ok-make_load.ensures.work c.in_ok-make_load.ensures.out c.in_ok-make_load.ensures.kept;
+      checks = checks_now g.l _ _ _ _ _ c.requires.1.1.0 _ _ _ c.in_ok-own.ensures c.requires.1.1.1 c.in_ok-begin_passed.ensures.tables _ c.in_ok-make_load.ensures.kept;
+    }
