@@ -23,7 +23,7 @@ use Rattle.tab_facts.specs.Calm.Calm.{IsCalm}
 use Rattle.tab_facts.specs.FrameWhole.Tab.{AreAwakeWithRows}
 use Rattle.tab_facts.specs.TabEvents.Between.{AreSwept, orders_go}
 use Rattle.tab_held.proofs.Holds.{are_under_way, under_way}
-use Rattle.tab_held.proofs.Known.{known_prompts}
+use Rattle.tab_prompts.proofs.Known.{known_prompts}
 use Rattle.tab_held.proofs.Over.{noted_or_over, one_apart, one_has, one_is, one_waits}
 use Rattle.tab_held.specs.Holding.{HasRestedAt, HoldsQueue, WaitsAlone, goes_on, held_cut, held_prompts}
 use Rattle.tab_ids.specs.declared.ReqId.{ReqId}

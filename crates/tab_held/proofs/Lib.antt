@@ -1,5 +1,4 @@
 pub mod Over
-pub mod Known
 pub mod Holds
 pub mod Cut
 pub mod Ends

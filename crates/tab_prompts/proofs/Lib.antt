@@ -17,3 +17,4 @@ pub mod Begins
 pub mod Again
 pub mod Lasting
 pub mod Rested
+pub mod Known
