@@ -57,11 +57,8 @@ use Rattle.tab_passes.specs.Causes.{MayCause}
 use Rattle.tab_settles.proofs.Lates.{KeepsStep, off_still}
 use Rattle.tab_settles.proofs.MovedRows.{shown_left}
 use Rattle.tab_settles.specs.Offs.{IsLate, LateKnown}
-use Rattle.tab_stands.proofs.LateEvents.{late_off}
 use Rattle.tab_stands.proofs.PassedOn.{IsBegun, IsReachedAt, KeepsWhat, causes_on, reached_at, reached_same}
-use Rattle.tab_stands.specs.Offs.{AreOffKnown}
 use Rattle.tab_stands.specs.PassedOn.{IsLoadOf, MovedAreShown}
-use Rattle.tab_stands.specs.Standing.{InCheck}
 use Rattle.tab_turns.proofs.Turned.{KeepBegun, started_out}
 use Rattle.unasked.proofs.Passings.{begun_as}
 use Rattle.unasked_tab.proofs.Begun.{begun_now, with_begun}
@@ -69,7 +66,7 @@ use Rattle.unasked_tab.proofs.LoadFresh.{load_passed_tab}
 use Rattle.unasked_tab.proofs.Reordered.{reordered_tab}
 use Rattle.unload_check.specs.Checks.{OpenCheck}
 
-module _ (l : InLoadPass) (check : InCheck) (s : Seen) (t : Tables) (p : Asked) (un : IsUnbegun l check s t p) (q : Asked) (starts : q.is_started ≡ true) (state_is : q.state ≡ Some l.state) (replaces : l.replace ≡ q.replaces) where
+module _ (l : InLoadPass) (hand : List ReqId) (s : Seen) (t : Tables) (p : Asked) (un : IsUnbegun l hand s t p) (q : Asked) (starts : q.is_started ≡ true) (state_is : q.state ≡ Some l.state) (replaces : l.replace ≡ q.replaces) where
   -- the log then, and the load there
   abbrev pub m : Seen
   m = with_begun s l.req q
@@ -107,12 +104,12 @@ module _ (l : InLoadPass) (check : InCheck) (s : Seen) (t : Tables) (p : Asked) 
   reached_there = reached_at s l.nav un.reached
 
   tab_s : IsTab t.running (l.req ∷ l.loads) [] s
-  tab_s = reordered_tab t.running check.loads (l.req ∷ l.loads) [] s un.hand un.stands.between.tab
+  tab_s = reordered_tab t.running hand (l.req ∷ l.loads) [] s un.hand un.going.tab
 
   -- its navigable has no ongoing load
   none_ongoing : (r : ReqId) (x : Asked) → request_of s r ≡ Some x → is_ongoing_load x ≡ true → loads l.nav x.what ≡ true → ⊥
   none_ongoing r x at on its =
-      let has : HasLoad t.loads l.nav r = un.stands.tied.loads.all r x l.nav at on its in
+      let has : HasLoad t.loads l.nav r = un.tied.loads.all r x l.nav at on its in
       let never : None ≡ Some has.load = sym un.alone ∙ has.at in cc
 
   to_load : IsToLoad s l.req p l.nav l.mode l.address
@@ -141,7 +138,7 @@ module _ (l : InLoadPass) (check : InCheck) (s : Seen) (t : Tables) (p : Asked) 
   -- ---- what goes on
 
   lasting_s : AreLasting s
-  lasting_s = un.stands.lasts.lasting
+  lasting_s = un.going.lasting
 
   lasting_then : AreLasting m
   lasting_then =
@@ -174,12 +171,12 @@ module _ (l : InLoadPass) (check : InCheck) (s : Seen) (t : Tables) (p : Asked) 
         tab = tab_then;
         lasting = lasting_then;
         counted = record {
-          entries = (let low : s.entries ≤ 1 + count_of has_ended s.requests = un.stands.lasts.counted.entries in let same : count_of has_ended m.requests ≡ count_of has_ended s.requests = same_ended in omega (arith, low, same));
-          epochs = un.stands.lasts.counted.epochs;
+          entries = (let low : s.entries ≤ 1 + count_of has_ended s.requests = un.going.counted.entries in let same : count_of has_ended m.requests ≡ count_of has_ended s.requests = same_ended in omega (arith, low, same));
+          epochs = un.going.counted.epochs;
         };
-        steps = steps_still s m un.stands.lasts.steps refl (let same : count_of has_ended m.requests ≡ count_of has_ended s.requests = same_ended in omega (arith, same));
-        held = held_then t.running un.stands.lasts.held;
-        room = (let long : length m.requests ≡ length s.requests = as_many s.requests l.req (begun_as q) in let room = un.room in omega (arith, long, room));
+        steps = steps_still s m un.going.steps refl (let same : count_of has_ended m.requests ≡ count_of has_ended s.requests = same_ended in omega (arith, same));
+        held = held_then t.running un.going.held;
+        room = (let long : length m.requests ≡ length s.requests = as_many s.requests l.req (begun_as q) in let room = un.going.room in omega (arith, long, room));
       }
 
   -- ---- no document has its document state
@@ -197,7 +194,7 @@ module _ (l : InLoadPass) (check : InCheck) (s : Seen) (t : Tables) (p : Asked) 
       never : (d : Document) → is_for_state l.state d ≡ true → made_for s.documents l.state ≡ Some d → ⊥
       never d is found =
           let has = (find_has (is_for_state l.state) s.documents d found).0 in
-          let itself : document_of s d.nr ≡ Some d = found_itself s.documents d un.stands.between.tab.whose.numbered has in
+          let itself : document_of s d.nr ≡ Some d = found_itself s.documents d un.going.tab.whose.numbered has in
           let no : false ≡ true = sym (none_has d.nr d itself) ∙ (and_parts (d.state.0 == l.state.0) (not (d.is_discarded || d.is_known_dead)) is).0 in
           absurd cc
 
@@ -254,7 +251,7 @@ module _ (l : InLoadPass) (check : InCheck) (s : Seen) (t : Tables) (p : Asked) 
               let one : load ≡ x = cc in
               subst (λ (y : Load). IsLoadTied m y) one own_tied
           by_nav false e =
-              let tied : IsLoadTied s x = un.stands.tied.loads.there nav x (sym (others_begun load t.loads nav e) ∙ at) in
+              let tied : IsLoadTied s x = un.tied.loads.there nav x (sym (others_begun load t.loads nav e) ∙ at) in
               tied_again s m x (ap (λ (o : Option Asked). option_map traced o) (other x.req (apart_of x tied))) refl tied
 
       all : (r : ReqId) (x : Asked) (nav : NavId) → request_of m r ≡ Some x → is_ongoing_load x ≡ true → loads nav x.what ≡ true → HasLoad next nav r
@@ -274,12 +271,12 @@ module _ (l : InLoadPass) (check : InCheck) (s : Seen) (t : Tables) (p : Asked) 
               let number : is_nav l.nav nav ≡ true = ap (λ (w : Request). loads nav w) (sym un.what ∙ ap (λ (k : Asked). k.what) same) ∙ its in
               record { load = load; at = ap (λ (n : NavId). ongoing_load n next) (sym (nav_is l.nav nav number)) ∙ own; req_is = sym one }
           by_req false e =
-              by_nav (has_again s m t.loads un.stands.tied.loads r x nav at on its (ap (λ (o : Option Asked). option_map traced o) (other r e))) (is_nav nav l.nav) refl
+              by_nav (has_again s m t.loads un.tied.loads r x nav at on its (ap (λ (o : Option Asked). option_map traced o) (other r e))) (is_nav nav l.nav) refl
 
   -- another navigable's load isn't it
   pub table_apart : (nav : NavId) (x : Load) → ongoing_load nav (begun (passed_load l) t.loads) ≡ Some x → is_nav nav l.nav ≡ false → x.req.0 ≡ l.req.0 → ⊥
   table_apart nav x at apart same =
-      let tied : IsLoadTied s x = un.stands.tied.loads.there nav x (sym (others_begun load t.loads nav apart) ∙ at) in
+      let tied : IsLoadTied s x = un.tied.loads.there nav x (sym (others_begun load t.loads nav apart) ∙ at) in
       let never : (x.req.0 == l.req.0) ≡ true = grind (arith, nat_tests, same) in
       let no : true ≡ false = sym never ∙ apart_of x tied in
       cc
@@ -311,9 +308,9 @@ module _ (l : InLoadPass) (check : InCheck) (s : Seen) (t : Tables) (p : Asked) 
   goal_then r x is at = by_number (r.0 == l.req.0) refl
     where
       by_number : (b : Bool) → (r.0 == l.req.0) ≡ b → x.goal ≡ Some t.goal
-      by_number false e = un.stands.tied.goal r x is (sym (other r e) ∙ at)
+      by_number false e = un.tied.goal r x is (sym (other r e) ∙ at)
       by_number true e =
-          let only : is_run p ≡ is_this t.running l.req = un.stands.between.tab.asked.only l.req p un.there in
+          let only : is_run p ≡ is_this t.running l.req = un.going.tab.asked.only l.req p un.there in
           let runs : is_this t.running l.req ≡ true = ap (λ (o : Option ReqId). is_this o l.req) is ∙ e in
           let never : false ≡ true = sym (runs_not p never_goes) ∙ only ∙ runs in
           absurd cc
@@ -321,13 +318,13 @@ module _ (l : InLoadPass) (check : InCheck) (s : Seen) (t : Tables) (p : Asked) 
   pub tied_then : (checks : List (ReqId × OpenCheck)) → AreTied (with_begun s l.req q) (load_tables t (passed_load l) checks)
   tied_then checks =
       record {
-        holds = on_tables (left_holds (look_in_of s t.running) (look_in_of m t.running) t refl refl refl (moved_same s.requests m.requests t.running moves) refl refl refl un.stands.tied.holds);
-        runs = runs_same s.requests m.requests t.running runs_read un.stands.tied.runs;
+        holds = on_tables (left_holds (look_in_of s t.running) (look_in_of m t.running) t refl refl refl (moved_same s.requests m.requests t.running moves) refl refl refl un.tied.holds);
+        runs = runs_same s.requests m.requests t.running runs_read un.tied.runs;
         goal = goal_then;
-        few = un.stands.tied.few;
-        initial = un.stands.tied.initial;
+        few = un.tied.few;
+        initial = un.tied.initial;
         loads = ties;
-        kept = un.stands.tied.kept;
+        kept = un.tied.kept;
       }
     where
       on_tables : Holds (look_in_of m t.running) t → Holds (look_in_of m t.running) (load_tables t load checks)
@@ -350,7 +347,7 @@ module _ (l : InLoadPass) (check : InCheck) (s : Seen) (t : Tables) (p : Asked) 
   pub aim_then : aim_of (with_begun s l.req q) ≡ aim_of s
   aim_then =
       aim_is m t.running tab_then.asked t.goal goal_then
-      ∙ sym (aim_is s t.running un.stands.between.tab.asked t.goal un.stands.tied.goal)
+      ∙ sym (aim_is s t.running un.going.tab.asked t.goal un.tied.goal)
 
   pub reached_then : is_reached (with_begun s l.req q) l.nav ≡ true
   reached_then = reached_same s m refl refl aim_then l.nav un.reached
@@ -414,8 +411,8 @@ module _ (l : InLoadPass) (check : InCheck) (s : Seen) (t : Tables) (p : Asked) 
 
   -- ---- whom a traversal has moved, and who is late
 
-  pub moved_shown : MovedAreShown t.running (with_begun s l.req q)
-  moved_shown = shown_left t.running s m refl still un.stands.lasts.moved
+  pub moved_shown : MovedAreShown t.running s → MovedAreShown t.running (with_begun s l.req q)
+  moved_shown moved = shown_left t.running s m refl still moved
     where
       still : (r : ReqId) (x : Asked) → t.running ≡ Some r → request_of m r ≡ Some x → (y : Asked) × (request_of s r ≡ Some y) × (x.moved ≡ y.moved) × (x.activated ≡ y.activated)
       still r x is at = by_number (r.0 == l.req.0) refl
@@ -428,7 +425,7 @@ module _ (l : InLoadPass) (check : InCheck) (s : Seen) (t : Tables) (p : Asked) 
               let same : own_then ≡ x = cc in
               (p, ap (λ (k : ReqId). request_of s k) one ∙ un.there, ap (λ (k : Asked). k.moved) (sym same), ap (λ (k : Asked). k.activated) (sym same))
 
-  steps_on : KeepsStep s m
+  pub steps_on : KeepsStep s (with_begun s l.req q)
   steps_on =
       record {
         changes = λ r x change at changed. (let then = is_asked (λ (k : Asked). k.change) s.requests m.requests (on_read (λ (k : Asked). k.change) s.requests l.req (begun_as q) (λ k. refl)) r x at in (then.0, then.1, then.2 ∙ changed));
@@ -436,11 +433,11 @@ module _ (l : InLoadPass) (check : InCheck) (s : Seen) (t : Tables) (p : Asked) 
         unstood = λ none. none;
       }
 
-  pub late_known : LateKnown t.running (with_begun s l.req q)
-  late_known = by_run t.running un.stands.lasts.off
+  pub late_known : LateKnown t.running s → LateKnown t.running (with_begun s l.req q)
+  late_known known = by_run t.running known
     where
-      by_run : (r : Option ReqId) → AreOffKnown r s → LateKnown r m
+      by_run : (r : Option ReqId) → LateKnown r s → LateKnown r m
       by_run (Some run) known = tt
       by_run None known = λ nav place doc late shown.
           (let was : IsLate s nav place doc = record { placed = late.placed; wakes = late.wakes; untold = late.untold; old = late.old } in
-          off_still s m nav place place steps_on late.placed late.placed refl refl (known.since refl nav place late.placed shown (late_off s nav place doc was) late.old))
+          off_still s m nav place place steps_on late.placed late.placed refl refl (known nav place doc was shown))

@@ -1,6 +1,6 @@
 -- The load passes, and its document is to be made: what the calls ask for, and what has become of it, in the words of the code.
 use Rattle.load_passed.proofs.Makes as makes
-use Rattle.load_passed.proofs.Settled.{past_last}
+use Rattle.load_passed.proofs.Resting.{past_last}
 use Rattle.load_passed.specs.Passing.{InLoadPass, IsPastLoad, IsToMake, load_tables, passed_load}
 use Rattle.load_table.specs.declared.load.Load.{Load}
 use Rattle.load_table.specs.declared.phase.Phase.TheVariants as phases
@@ -33,7 +33,7 @@ use Rattle.unload_check.specs.Checks.{ended}
 -- the load of these names
 abbrev pub named : InLoadPass → ReqId → NavId → List ℕ → Bool → StateId → InLoadPass
 named l req nav address replace state =
-    record { event = l.event; loads = l.loads; req = req; nav = nav; mode = l.mode; address = address; replace = replace; state = state; queue = l.queue; noted = l.noted }
+    record { event = l.event; before = l.before; loads = l.loads; req = req; nav = nav; mode = l.mode; address = address; replace = replace; state = state; queue = l.queue; noted = l.noted }
 
 module _ (l : InLoadPass) (req : ReqId) (nav : NavId) (address : List ℕ) (replace : Bool) (state : StateId) (load_is : passed_load l ≡ record { req = req; nav = nav; address = address; replace = replace; state = state; phase = phases.Asking }) where
   -- it is the same

@@ -1,13 +1,11 @@
 -- A pass may follow once the document of a load that has passed its check is being made.
 use Rattle.load_passed.proofs.Begun as begun
 use Rattle.load_passed.proofs.Kept as kept
-use Rattle.load_passed.proofs.Lives as lives
 use Rattle.load_passed.proofs.Makes as makes
 use Rattle.load_passed.proofs.Queues as queues
 use Rattle.load_passed.proofs.Sent as sent
 use Rattle.load_passed.proofs.Sent.{order_of}
-use Rattle.load_passed.proofs.Taking.{taking}
-use Rattle.load_passed.specs.Passing.{InLoadPass, IsToMake, IsUnwoken}
+use Rattle.load_passed.specs.Passing.{InLoadPass, IsToMake}
 use Rattle.log_model.specs.Equal.{has_req}
 use Rattle.log_model.specs.History.{History}
 use Rattle.log_model.specs.Places.{aim_of, all_stand, all_stand_in}
@@ -20,7 +18,6 @@ use Rattle.log_model.specs.declared.row_kind.RowKind.TheVariants as rows
 use Rattle.log_model.specs.declared.row_kind.RowKind.{RowKind}
 use Rattle.row_facts.specs.FrameRows.Lawful.{has_traversed}
 use Rattle.seen_facts.proofs.Coord.Unread.{next}
-use Rattle.seen_facts.specs.Asked.Asking.{ArePlain}
 use Rattle.seen_facts.specs.Coord.Leading.{held_back}
 use Rattle.seen_facts.specs.Hang.Members.{Has}
 use Rattle.seen_laws.specs.InEvent.{now_of, row_of}
@@ -36,26 +33,23 @@ use Rattle.tab_facts.specs.Order.Orders.{IsOfCoord}
 use Rattle.tab_ids.specs.declared.ProcId.{ProcId}
 use Rattle.tab_ids.specs.declared.ReqId.{ReqId}
 use Rattle.tab_loads.proofs.Gives.{theirs_more}
-use Rattle.tab_loads.proofs.Leaving.{taken_but, taking_by}
 use Rattle.tab_moves.specs.Making.{home_in}
-use Rattle.tab_one_pass.proofs.Opens.{still_left}
 use Rattle.tab_passes.specs.Causes.{MayCause, MayServe}
 use Rattle.tab_passes.specs.Passing.{IsPassing}
 use Rattle.tab_stands.proofs.PassedOn.{IsUnapplied, IsUnmoving, late_put, queue_over, shown_put, sound_on, waiting_on}
 use Rattle.tab_settles.specs.Settling.{IsPlainTask}
-use Rattle.tab_stands.proofs.Ready.{calm_before, frees_open}
-use Rattle.tab_stands.specs.PassedOn.{HasPut, HasQueue, IsMake, IsQueueing, IsReady, IsTaking, LateKnown, LoadsMadeOwn, MakesServe, MayRelease, MovedAreShown, NoneRunsWhileHeld, OrdersAreSound}
+use Rattle.tab_stands.specs.PassedOn.{HasPut, HasQueue, IsMake, IsQueueing, LateKnown, LoadsMadeOwn, MakesServe, MayRelease, MovedAreShown, OrdersAreSound}
 use Rattle.unasked_tab.proofs.Begun.{with_begun}
 
 module _ (l : InLoadPass) (u : Tables) (it : IsToMake l u) (proc : ProcId) (home : home_in l.event.header u l.nav l.address ≡ Some proc) (y : Tables) (last : List RowKind) (work_y : IsAtWork l.event last y) (last_is : last ≡ rows.Sent (order_of l u proc) ∷ []) (keeps_y : KeepsStore u y) where
   abbrev s : Seen
-  s = it.before
+  s = l.before
 
   abbrev m : Seen
   m = now_of l.event []
 
   abbrev then_ : Seen
-  then_ = with_begun it.before l.req it.q
+  then_ = with_begun l.before l.req it.q
 
   abbrev order : Job
   order =
@@ -75,7 +69,7 @@ module _ (l : InLoadPass) (u : Tables) (it : IsToMake l u) (proc : ProcId) (home
 
   pub theirs_last : LoadsMadeOwn (now_of l.event last)
   theirs_last =
-      subst (λ (x : Seen). LoadsMadeOwn x) (sym is_fin) (theirs_more s fin (kept.reads_on l u it proc home y last work_y last_is keeps_y wish (λ x. refl)) (kept.found_more l u it proc home y last work_y last_is keeps_y) it.unbegun.stands.lasts.made)
+      subst (λ (x : Seen). LoadsMadeOwn x) (sym is_fin) (theirs_more s fin (kept.reads_on l u it proc home y last work_y last_is keeps_y wish (λ x. refl)) (kept.found_more l u it proc home y last work_y last_is keeps_y) it.beside.theirs)
 
   pub causes_last : MayCause (now_of l.event last) (whys.Req l.req)
   causes_last =
@@ -83,7 +77,7 @@ module _ (l : InLoadPass) (u : Tables) (it : IsToMake l u) (proc : ProcId) (home
 
   -- ---- the row
 
-  quiet : (kind : RowKind) → Has last kind → IsUnmoving kind × IsUnapplied kind
+  pub quiet : (kind : RowKind) → Has last kind → IsUnmoving kind × IsUnapplied kind
   quiet = subst (λ (o : List RowKind). (kind : RowKind) → Has o kind → IsUnmoving kind × IsUnapplied kind) (sym last_is) each
     where
       each : (kind : RowKind) → (rows.Sent order ≡ kind) ⊎ ⊥ → IsUnmoving kind × IsUnapplied kind
@@ -131,11 +125,11 @@ module _ (l : InLoadPass) (u : Tables) (it : IsToMake l u) (proc : ProcId) (home
 
   moved : MovedAreShown u.running (now_of l.event [])
   moved =
-      subst (λ (r : Option ReqId). MovedAreShown r (now_of l.event [])) (sym (makes.run_same l u it)) (makes.at_now l u it (λ (x : Seen). MovedAreShown it.t.running x) (begun.moved_shown l it.check s it.t it.p it.unbegun it.q it.starts it.state_is it.replaces))
+      subst (λ (r : Option ReqId). MovedAreShown r (now_of l.event [])) (sym (makes.run_same l u it)) (makes.at_now l u it (λ (x : Seen). MovedAreShown it.t.running x) (begun.moved_shown l it.loads s it.t it.p it.unbegun it.q it.starts it.state_is it.replaces it.beside.moved))
 
   late : LateKnown u.running (now_of l.event [])
   late =
-      subst (λ (r : Option ReqId). LateKnown r (now_of l.event [])) (sym (makes.run_same l u it)) (makes.at_now l u it (λ (x : Seen). LateKnown it.t.running x) (begun.late_known l it.check s it.t it.p it.unbegun it.q it.starts it.state_is it.replaces))
+      subst (λ (r : Option ReqId). LateKnown r (now_of l.event [])) (sym (makes.run_same l u it)) (makes.at_now l u it (λ (x : Seen). LateKnown it.t.running x) (begun.late_known l it.loads s it.t it.p it.unbegun it.q it.starts it.state_is it.replaces it.beside.late))
 
   pub moved_last : MovedAreShown y.running (now_of l.event last)
   moved_last =
@@ -155,7 +149,7 @@ module _ (l : InLoadPass) (u : Tables) (it : IsToMake l u) (proc : ProcId) (home
   aim_last =
       ap (λ (x : Seen). aim_of x) is_fin
       ∙ kept.aim_fin l u it proc home y last work_y last_is keeps_y
-      ∙ sym (begun.aim_then l it.check it.before it.t it.p it.unbegun it.q it.starts it.state_is it.replaces)
+      ∙ sym (begun.aim_then l it.loads l.before it.t it.p it.unbegun it.q it.starts it.state_is it.replaces)
       ∙ sym (ap (λ (x : Seen). aim_of x) it.now)
 
   stood : all_stand (now_of l.event last) (aim_of (now_of l.event last)) ≡ all_stand m (aim_of m)
@@ -173,7 +167,7 @@ module _ (l : InLoadPass) (u : Tables) (it : IsToMake l u) (proc : ProcId) (home
   queued_last : HasQueue (now_of l.event last) y.running l.queue.waiting
   queued_last =
       subst (λ (x : Seen). HasQueue x y.running l.queue.waiting) (sym is_fin)
-      (subst (λ (r : Option ReqId). HasQueue fin r l.queue.waiting) (sym run_y) (queue_over s fin (queues.left_fin l u it proc home y last work_y last_is keeps_y) it.t.running l.queue.waiting it.unbegun.stands.queue))
+      (subst (λ (r : Option ReqId). HasQueue fin r l.queue.waiting) (sym run_y) (queue_over s fin (queues.left_fin l u it proc home y last work_y last_is keeps_y) it.t.running l.queue.waiting it.beside.queued))
 
   releases : MayRelease l.event [] → MayRelease l.event last
   releases may =
@@ -197,51 +191,9 @@ module _ (l : InLoadPass) (u : Tables) (it : IsToMake l u) (proc : ProcId) (home
 
   -- ---- orders on their way
 
-  pub makes_then : MakesServe (with_begun it.before l.req it.q)
+  pub makes_then : MakesServe (with_begun l.before l.req it.q)
   makes_then =
-      orders_on (λ (job : Job). IsMake job.task → MayCause s job.why) (λ (job : Job). IsMake job.task → MayCause then_ job.why) s (λ job its made. begun.causes_then l it.check s it.t it.p it.unbegun it.q it.starts it.state_is it.replaces job.why (its made)) it.unbegun.stands.lasts.makes
+      orders_on (λ (job : Job). IsMake job.task → MayCause s job.why) (λ (job : Job). IsMake job.task → MayCause then_ job.why) s (λ job its made. begun.causes_then l it.loads s it.t it.p it.unbegun it.q it.starts it.state_is it.replaces job.why (its made)) it.beside.makes
 
-  pub sound_then : OrdersAreSound (with_begun it.before l.req it.q)
-  sound_then = sound_on s then_ (begun.whats_then l it.check s it.t it.p it.unbegun it.q it.starts it.state_is it.replaces) it.unbegun.stands.lasts.sound
-
-  -- ---- a pass may follow, if nobody was woken in the event
-
-  module _ (awake_ : IsUnwoken l.event (now_of l.event [])) where
-    awake_then : IsUnwoken l.event then_
-    awake_then = subst (λ (x : Seen). IsUnwoken l.event x) it.now awake_
-
-    awake_s : IsUnwoken l.event s
-    awake_s = record { unwoken = awake_then.unwoken; still = still_left l.event.start then_ s refl refl awake_then.still }
-
-    taken : IsTaking l.event it.t.running l.noted s
-    taken = taking l it.check s it.t it.p it.unbegun it.after_pass awake_s
-
-    plain_fin : ArePlain it.t.running fin
-    plain_fin =
-        subst (λ (r : Option ReqId). ArePlain r fin) (makes.run_same l u it) (sent.going_fin l u it proc home y last work_y last_is keeps_y).tab.asked
-
-    taken_fin : IsTaking l.event it.t.running l.noted fin
-    taken_fin =
-        taking_by l.event it.t.running s fin (taken_but l.event it.t.running l.noted s taken) it.unbegun.stands.between.tab.asked plain_fin it.unbegun.stands.between.tab.homes (kept.most l u it proc home y last work_y last_is keeps_y) (kept.fresh_or_old l u it proc home y last work_y last_is keeps_y) l.noted (lives.blamed_fin l u it taken.blamed taken.live proc home y last work_y last_is keeps_y) (lives.live_fin l u it taken.blamed taken.live proc home y last work_y last_is keeps_y)
-
-    taken_last : IsTaking l.event y.running l.noted (now_of l.event last)
-    taken_last =
-        subst (λ (x : Seen). IsTaking l.event y.running l.noted x) (sym is_fin) (subst (λ (r : Option ReqId). IsTaking l.event r l.noted fin) (sym run_y) taken_fin)
-
-    pub ready_last : IsReady (record { event = l.event; loads = l.loads; hand = [] }) last y l.queue l.noted (whys.Req l.req)
-    ready_last =
-        record {
-          passing = passing_fin;
-          empty = refl;
-          header = keeps_y.keep ∙ it.header;
-          open_ = taken_last.open_ (whys.Req l.req) causes_last;
-          loads = taken_last.loads;
-          frees = frees_open l.event it.check.holds y.running (now_of l.event last) (subst (λ (r : Option ReqId). NoneRunsWhileHeld it.check.holds r) (sym run_y) it.unbegun.stands.alone) it.after_pass.free taken_last.open_;
-          blamed = taken_last.blamed;
-          calm = calm_before y.running (whys.Req l.req) (now_of l.event last) taken_last.calm taken_last.unmoved taken_last.rooted;
-          late = late_last;
-          moved = moved_last;
-          live = taken_last.live;
-          theirs = theirs_last;
-          queueing = queueing_last;
-        }
+  pub sound_then : OrdersAreSound (with_begun l.before l.req it.q)
+  sound_then = sound_on s then_ (begun.whats_then l it.loads s it.t it.p it.unbegun it.q it.starts it.state_is it.replaces) it.beside.sound

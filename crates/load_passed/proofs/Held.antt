@@ -5,7 +5,8 @@ use Rattle.asking_facts.specs.Prompting.{NotesWanted, has_wanted}
 use Rattle.check_facts.specs.Checking.{AreTiedAt, is_checking}
 use Rattle.check_facts.specs.Prompting.{prompt_of, todo_of}
 use Rattle.checking_facts.specs.Checks.{NumbersNext}
-use Rattle.load_passed.specs.Passing.{InLoadPass, IsPastLoad}
+use Rattle.load_passed.specs.Passing.{InLoadPass, IsPastLoad, WasSettled}
+use Rattle.log_model.specs.declared.job.Why.TheVariants as whys
 use Rattle.log_model.specs.Checks.{is_checked}
 use Rattle.log_model.specs.Places.{has_passed, is_traversal, is_under_way}
 use Rattle.log_model.specs.Queue.{is_step_under_way}
@@ -68,9 +69,9 @@ held_ready p out u queue noted cause ready =
     }
 
 -- where no traversal runs the tab is calm, but for navigables without an entry
-pub held_calm : (l : InLoadPass) (u : Tables) (out : List RowKind) → IsPastLoad l u out → u.running ≡ None → IsCalmYet (now_of l.event out)
-held_calm l u out past idle =
-    calm_but (now_of l.event out) (subst (λ (r : Option ReqId). IsCalmAfter r (now_of l.event out)) idle past.settled.calm) (λ (nav : NavId). has_row nav (now_of l.event out).history.rows ≡ false)
+pub held_calm : (l : InLoadPass) (u : Tables) (out : List RowKind) → IsPastLoad l u out → WasSettled l u.running → u.running ≡ None → IsCalmYet (now_of l.event out)
+held_calm l u out past was idle =
+    calm_but (now_of l.event out) (subst (λ (r : Option ReqId). IsCalmAfter r (now_of l.event out)) idle (past.settled (whys.Req l.req) past.own was).calm) (λ (nav : NavId). has_row nav (now_of l.event out).history.rows ≡ false)
 
 -- the table once the load's check has ended, whether it was told of an answer before or not
 pub left_table : (req : ReqId) (es : List (ReqId × OpenCheck)) → KeepsOthers req es (ended req es)

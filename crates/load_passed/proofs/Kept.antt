@@ -72,13 +72,13 @@ last_found test (x ∷ xs) y d found = by_test (test x) found (last_found test x
 
 module _ (l : InLoadPass) (u : Tables) (it : IsToMake l u) (proc : ProcId) (home : home_in l.event.header u l.nav l.address ≡ Some proc) (y : Tables) (last : List RowKind) (work_y : IsAtWork l.event last y) (last_is : last ≡ rows.Sent (order_of l u proc) ∷ []) (keeps_y : KeepsStore u y) where
   abbrev s : Seen
-  s = it.before
+  s = l.before
 
   abbrev m : Seen
   m = now_of l.event []
 
   abbrev then_ : Seen
-  then_ = with_begun it.before l.req it.q
+  then_ = with_begun l.before l.req it.q
 
   abbrev order : Job
   order =
@@ -98,51 +98,51 @@ module _ (l : InLoadPass) (u : Tables) (it : IsToMake l u) (proc : ProcId) (home
   requests_are : fin.requests ≡ then_.requests
   requests_are = ap (λ (x : Seen). x.requests) it.now
 
-  pub reads_on : {B : Type 0} (read : Asked → B) → ((x : Asked) → read (begun_as it.q x) ≡ read x) → SameReads read it.before.requests (next (now_of l.event []) l.event.event l.event.actor (rows.Sent (order_of l u proc))).requests
+  pub reads_on : {B : Type 0} (read : Asked → B) → ((x : Asked) → read (begun_as it.q x) ≡ read x) → SameReads read l.before.requests (next (now_of l.event []) l.event.event l.event.actor (rows.Sent (order_of l u proc))).requests
   reads_on {B} read one =
       subst (λ (x : List Asked). SameReads read s.requests x) (sym requests_are) (on_read read s.requests l.req (begun_as it.q) one)
 
   pub found_fin : request_of (next (now_of l.event []) l.event.event l.event.actor (rows.Sent (order_of l u proc))) l.req ≡ Some (begun_as it.q it.p)
   found_fin = makes.found_then l u it
 
-  pub other_same : (r : ReqId) → (r.0 == l.req.0) ≡ false → request_of (next (now_of l.event []) l.event.event l.event.actor (rows.Sent (order_of l u proc))) r ≡ request_of it.before r
+  pub other_same : (r : ReqId) → (r.0 == l.req.0) ≡ false → request_of (next (now_of l.event []) l.event.event l.event.actor (rows.Sent (order_of l u proc))) r ≡ request_of l.before r
   other_same r apart =
-      ap (λ (x : List Asked). request_in x r) requests_are ∙ begun.other l it.check it.before it.t it.p it.unbegun it.q it.starts it.state_is it.replaces r apart
+      ap (λ (x : List Asked). request_in x r) requests_are ∙ begun.other l it.loads l.before it.t it.p it.unbegun it.q it.starts it.state_is it.replaces r apart
 
-  pub places_same : (next (now_of l.event []) l.event.event l.event.actor (rows.Sent (order_of l u proc))).places ≡ it.before.places
+  pub places_same : (next (now_of l.event []) l.event.event l.event.actor (rows.Sent (order_of l u proc))).places ≡ l.before.places
   places_same = ap (λ (x : Seen). x.places) it.now
 
-  pub aim_fin : aim_of (next (now_of l.event []) l.event.event l.event.actor (rows.Sent (order_of l u proc))) ≡ aim_of it.before
+  pub aim_fin : aim_of (next (now_of l.event []) l.event.event l.event.actor (rows.Sent (order_of l u proc))) ≡ aim_of l.before
   aim_fin =
       make_aim m l.event.event l.event.actor order l.nav l.state l.address false refl
       ∙ ap (λ (x : Seen). aim_of x) it.now
-      ∙ begun.aim_then l it.check it.before it.t it.p it.unbegun it.q it.starts it.state_is it.replaces
+      ∙ begun.aim_then l it.loads l.before it.t it.p it.unbegun it.q it.starts it.state_is it.replaces
 
   abbrev pub new : Document
   new = new_document (now_of l.event []) order l.nav l.state
 
-  pub found_more : (doc : DocId) (d : Document) → document_of it.before doc ≡ Some d → document_of (next (now_of l.event []) l.event.event l.event.actor (rows.Sent (order_of l u proc))) doc ≡ Some d
+  pub found_more : (doc : DocId) (d : Document) → document_of l.before doc ≡ Some d → document_of (next (now_of l.event []) l.event.event l.event.actor (rows.Sent (order_of l u proc))) doc ≡ Some d
   found_more doc d found =
       first_found (λ (x : Document). x.nr.0 == doc.0) m.documents (new ∷ []) d (ap (λ (x : List Document). document_in x doc) (makes.documents_same l u it) ∙ found)
 
-  pub found_back : (doc : DocId) (d : Document) → document_of (next (now_of l.event []) l.event.event l.event.actor (rows.Sent (order_of l u proc))) doc ≡ Some d → (document_of it.before doc ≡ Some d) ⊎ (new_document (now_of l.event []) (order_of l u proc) l.nav l.state ≡ d)
+  pub found_back : (doc : DocId) (d : Document) → document_of (next (now_of l.event []) l.event.event l.event.actor (rows.Sent (order_of l u proc))) doc ≡ Some d → (document_of l.before doc ≡ Some d) ⊎ (new_document (now_of l.event []) (order_of l u proc) l.nav l.state ≡ d)
   found_back doc d found = by_case (last_found (λ (x : Document). x.nr.0 == doc.0) m.documents new d found)
     where
       by_case : (document_of m doc ≡ Some d) ⊎ (new ≡ d) → (document_of s doc ≡ Some d) ⊎ (new ≡ d)
       by_case (inl old) = inl (ap (λ (x : List Document). document_in x doc) (sym (makes.documents_same l u it)) ∙ old)
       by_case (inr is) = inr is
 
-  pub place_on : (nav : NavId) → place_of (next (now_of l.event []) l.event.event l.event.actor (rows.Sent (order_of l u proc))) nav ≡ place_of it.before nav
+  pub place_on : (nav : NavId) → place_of (next (now_of l.event []) l.event.event l.event.actor (rows.Sent (order_of l u proc))) nav ≡ place_of l.before nav
   place_on nav = ap (λ (x : List Place). place_in x nav) places_same
 
   pub own_serves : MayServe (next (now_of l.event []) l.event.event l.event.actor (rows.Sent (order_of l u proc))) l.req
   own_serves = causes_on m fin u.running going_fin.tab.asked (λ r. refl) (λ this each. each) (whys.Req l.req) (makes.causes l u it) l.req refl
 
-  pub causes_fin : (why : Why) → MayCause it.before why → MayCause (next (now_of l.event []) l.event.event l.event.actor (rows.Sent (order_of l u proc))) why
+  pub causes_fin : (why : Why) → MayCause l.before why → MayCause (next (now_of l.event []) l.event.event l.event.actor (rows.Sent (order_of l u proc))) why
   causes_fin =
-      causes_on s fin u.running going_fin.tab.asked (reads_on wish (λ x. refl)) (subst (λ (x : List Asked). KeepBegun s.requests x) (sym requests_are) (begun.keep_begun l it.check it.before it.t it.p it.unbegun it.q it.starts it.state_is it.replaces))
+      causes_on s fin u.running going_fin.tab.asked (reads_on wish (λ x. refl)) (subst (λ (x : List Asked). KeepBegun s.requests x) (sym requests_are) (begun.keep_begun l it.loads l.before it.t it.p it.unbegun it.q it.starts it.state_is it.replaces))
 
-  pub most : LeavesMost it.before (next (now_of l.event []) l.event.event l.event.actor (rows.Sent (order_of l u proc)))
+  pub most : LeavesMost l.before (next (now_of l.event []) l.event.event l.event.actor (rows.Sent (order_of l u proc)))
   most =
       record {
         places = places_same;
@@ -157,7 +157,7 @@ module _ (l : InLoadPass) (u : Tables) (it : IsToMake l u) (proc : ProcId) (home
     where
       moved_fin : (why : Why) (nav : NavId) → IsMovedBy s why nav → IsMovedBy fin why nav
       moved_fin why nav by =
-          sent_moved m l.event.event l.event.actor why nav (makes.at_now l u it (λ (x : Seen). IsMovedBy x why nav) (begun.moved_then l it.check it.before it.t it.p it.unbegun it.q it.starts it.state_is it.replaces why nav by)) order tt
+          sent_moved m l.event.event l.event.actor why nav (makes.at_now l u it (λ (x : Seen). IsMovedBy x why nav) (begun.moved_then l it.loads l.before it.t it.p it.unbegun it.q it.starts it.state_is it.replaces why nav by)) order tt
 
   -- ---- its loads
 
@@ -165,7 +165,7 @@ module _ (l : InLoadPass) (u : Tables) (it : IsToMake l u) (proc : ProcId) (home
   look_other r apart = ap (λ (o : Option Asked). option_map look o) (other_same r apart)
 
   -- the load itself, or one that there was
-  pub old_or_own : (r : ReqId) (nav : NavId) → LoadOf (next (now_of l.event []) l.event.event l.event.actor (rows.Sent (order_of l u proc))) r nav → LoadOf it.before r nav ⊎ ((r ≡ l.req) × (l.nav ≡ nav))
+  pub old_or_own : (r : ReqId) (nav : NavId) → LoadOf (next (now_of l.event []) l.event.event l.event.actor (rows.Sent (order_of l u proc))) r nav → LoadOf l.before r nav ⊎ ((r ≡ l.req) × (l.nav ≡ nav))
   old_or_own r nav its_ = by_own (r.0 == l.req.0) refl
     where
       by_own : (b : Bool) → (r.0 == l.req.0) ≡ b → LoadOf s r nav ⊎ ((r ≡ l.req) × (l.nav ≡ nav))
@@ -177,7 +177,7 @@ module _ (l : InLoadPass) (u : Tables) (it : IsToMake l u) (proc : ProcId) (home
           let number : (l.nav.0 == nav.0) ≡ true = ap (λ (w : Request). loads nav w) (sym it.unbegun.what ∙ ap (λ (x : Look). x.what) one) ∙ its_.loads_it in
           inr (same, nav_same l.nav nav number)
 
-  pub fresh_or_old : (r : ReqId) (nav : NavId) → LoadOf (next (now_of l.event []) l.event.event l.event.actor (rows.Sent (order_of l u proc))) r nav → LoadOf it.before r nav ⊎ IsFresh l.event (next (now_of l.event []) l.event.event l.event.actor (rows.Sent (order_of l u proc))) r nav
+  pub fresh_or_old : (r : ReqId) (nav : NavId) → LoadOf (next (now_of l.event []) l.event.event l.event.actor (rows.Sent (order_of l u proc))) r nav → LoadOf l.before r nav ⊎ IsFresh l.event (next (now_of l.event []) l.event.event l.event.actor (rows.Sent (order_of l u proc))) r nav
   fresh_or_old r nav its_ = by_case (old_or_own r nav its_)
     where
       by_case : LoadOf s r nav ⊎ ((r ≡ l.req) × (l.nav ≡ nav)) → LoadOf s r nav ⊎ IsFresh l.event fin r nav
@@ -185,5 +185,5 @@ module _ (l : InLoadPass) (u : Tables) (it : IsToMake l u) (proc : ProcId) (home
       by_case (inr is) =
           inr (record {
             reached = ap (λ (x : NavId). is_reached fin x) (sym is.1) ∙ reached_same s fin places_same (ap (λ (x : Seen). x.history) it.now) aim_fin l.nav it.unbegun.reached;
-            unheld = ap (λ (x : ReqId). has_req (held_at_first l.event) x) is.0 ∙ it.after_pass.unheld;
+            unheld = ap (λ (x : ReqId). has_req (held_at_first l.event) x) is.0 ∙ it.unheld;
           })

@@ -8,6 +8,8 @@ pub mod Lives
 pub mod Queues
 pub mod Follows
 pub mod Settled
+pub mod Opening
+pub mod Resting
 pub mod Start
 pub mod Held
 pub mod Past

@@ -49,9 +49,9 @@ last_there test (x ∷ xs) y none is = by_test (test x) none (λ more. last_ther
 own_first : (k : ℕ) (b : Bool) → ((k == k) || b) ≡ true
 own_first k b = let same : (k == k) ≡ true = nat_eq_refl k in rw same refl
 
-module _ (l : InLoadPass) (u : Tables) (it : IsToMake l u) (blamed : AreBlamed it.before l.noted) (live : LoadsLive it.before) (proc : ProcId) (home : home_in l.event.header u l.nav l.address ≡ Some proc) (y : Tables) (last : List RowKind) (work_y : IsAtWork l.event last y) (last_is : last ≡ rows.Sent (order_of l u proc) ∷ []) (keeps_y : KeepsStore u y) where
+module _ (l : InLoadPass) (u : Tables) (it : IsToMake l u) (proc : ProcId) (home : home_in l.event.header u l.nav l.address ≡ Some proc) (y : Tables) (last : List RowKind) (work_y : IsAtWork l.event last y) (last_is : last ≡ rows.Sent (order_of l u proc) ∷ []) (keeps_y : KeepsStore u y) where
   abbrev s : Seen
-  s = it.before
+  s = l.before
 
   abbrev m : Seen
   m = now_of l.event []
@@ -94,7 +94,7 @@ module _ (l : InLoadPass) (u : Tables) (it : IsToMake l u) (blamed : AreBlamed i
           absurd cc
 
   -- a state that is no load's then was none's
-  pub unloaded_back : (d : Document) (state_ : StateId) → d.state ≡ state_ → load_of_state (next (now_of l.event []) l.event.event l.event.actor (rows.Sent (order_of l u proc))) state_ ≡ None → load_of_state it.before state_ ≡ None
+  pub unloaded_back : (d : Document) (state_ : StateId) → d.state ≡ state_ → load_of_state (next (now_of l.event []) l.event.event l.event.actor (rows.Sent (order_of l u proc))) state_ ≡ None → load_of_state l.before state_ ≡ None
   unloaded_back d state_ its_ none = by_load (load_of_state s state_) refl
     where
       loaded : (x : Asked) → load_of_state s state_ ≡ Some x → ⊥
@@ -106,8 +106,8 @@ module _ (l : InLoadPass) (u : Tables) (it : IsToMake l u) (blamed : AreBlamed i
       by_load None is = is
       by_load (Some x) is = absurd (loaded x is)
 
-  pub blamed_fin : AreBlamed (next (now_of l.event []) l.event.event l.event.actor (rows.Sent (order_of l u proc))) l.noted
-  blamed_fin doc state_ stray = by_case (kept.found_back l u it proc home y last work_y last_is keeps_y doc stray.document stray.found)
+  pub blamed_fin : AreBlamed l.before l.noted → AreBlamed (next (now_of l.event []) l.event.event l.event.actor (rows.Sent (order_of l u proc))) l.noted
+  blamed_fin blamed doc state_ stray = by_case (kept.found_back l u it proc home y last work_y last_is keeps_y doc stray.document stray.found)
     where
       serves_fin : (r : ReqId) → MayServe s r → MayServe fin r
       serves_fin r may = serve_on s fin r (kept.causes_fin l u it proc home y last work_y last_is keeps_y) may
@@ -179,7 +179,7 @@ module _ (l : InLoadPass) (u : Tables) (it : IsToMake l u) (blamed : AreBlamed i
           }
 
       by_own : (b : Bool) → (r.0 == l.req.0) ≡ b → HasLoadDocument fin x
-      by_own false apart_ = old (live.loading r x (sym (other_same r apart_) ∙ at) on)
+      by_own false apart_ = old (it.beside.live.loading r x (sym (other_same r apart_) ∙ at) on)
       by_own true is =
           let two : Some own_then ≡ Some x = sym (kept.found_fin l u it proc home y last work_y last_is keeps_y) ∙ ap (λ (k : ReqId). request_of fin k) (sym (req_same r l.req is)) ∙ at in
           let one : own_then ≡ x = cc in
@@ -196,7 +196,7 @@ module _ (l : InLoadPass) (u : Tables) (it : IsToMake l u) (blamed : AreBlamed i
         where
           by_case : LoadOf s r nav ⊎ ((r ≡ l.req) × (l.nav ≡ nav)) → (doc : DocId) × WasAwake fin nav doc
           by_case (inl old) =
-              let was = live.awake r nav old in
+              let was = it.beside.live.awake r nav old in
               (was.0, record { place = was.1.place; placed = place_on nav ∙ was.1.placed; wakes = was.1.wakes })
           by_case (inr is) =
               let wakes = placed_awake u.running l.loads [] m (makes.passing_now l u it).going.tab l.nav its.place its.placed (its.each l.nav (own_first l.nav.0 (has_nav its.place.above l.nav))) in

@@ -82,20 +82,20 @@ none_of f (nav ∷ navs) each =
 
 module _ (l : InLoadPass) (u : Tables) (it : IsToMake l u) where
   abbrev s : Seen
-  s = it.before
+  s = l.before
 
   -- the log without questions, with the load begun
   abbrev pub m : Seen
   m = now_of l.event []
 
   abbrev then_ : Seen
-  then_ = with_begun it.before l.req it.q
+  then_ = with_begun l.before l.req it.q
 
   abbrev own_then : Asked
   own_then = begun_as it.q it.p
 
   -- so it is there
-  pub at_now : (P : Seen → Type 0) → P (with_begun it.before l.req it.q) → P (now_of l.event [])
+  pub at_now : (P : Seen → Type 0) → P (with_begun l.before l.req it.q) → P (now_of l.event [])
   at_now P is = subst P (sym it.now) is
 
   pub run_same : u.running ≡ it.t.running
@@ -105,26 +105,26 @@ module _ (l : InLoadPass) (u : Tables) (it : IsToMake l u) where
   passing_now =
       record {
         work = it.work;
-        going = at_now (λ (x : Seen). IsGoing u.running l.loads [] x) (subst (λ (r : Option ReqId). IsGoing r l.loads [] then_) (sym run_same) (begun.going_then l it.check it.before it.t it.p it.unbegun it.q it.starts it.state_is it.replaces));
+        going = at_now (λ (x : Seen). IsGoing u.running l.loads [] x) (subst (λ (r : Option ReqId). IsGoing r l.loads [] then_) (sym run_same) (begun.going_then l it.loads l.before it.t it.p it.unbegun it.q it.starts it.state_is it.replaces));
         owed = loose_owed l.event [] it.loose;
         loose = λ all. it.loose;
-        rests = at_now (λ (x : Seen). AllRest x) it.unbegun.stands.between.rests;
-        few = at_now (λ (x : Seen). length x.kept ≤ u.kept.keep) (subst (λ (k : ℕ). length s.kept ≤ k) (sym (ap (λ (x : Tables). x.kept.keep) it.tables)) it.unbegun.stands.between.few);
+        rests = at_now (λ (x : Seen). AllRest x) it.beside.rests;
+        few = at_now (λ (x : Seen). length x.kept ≤ u.kept.keep) (subst (λ (k : ℕ). length s.kept ≤ k) (sym (ap (λ (x : Tables). x.kept.keep) it.tables)) it.beside.few);
         duly = it.duly;
       }
 
   pub found_then : request_of (now_of l.event []) l.req ≡ Some (begun_as it.q it.p)
   found_then =
-      ap (λ (x : Seen). request_of x l.req) it.now ∙ begun.there l it.check it.before it.t it.p it.unbegun it.q it.starts it.state_is it.replaces
+      ap (λ (x : Seen). request_of x l.req) it.now ∙ begun.there l it.loads l.before it.t it.p it.unbegun it.q it.starts it.state_is it.replaces
 
-  pub documents_same : (now_of l.event []).documents ≡ it.before.documents
+  pub documents_same : (now_of l.event []).documents ≡ l.before.documents
   documents_same = ap (λ (x : Seen). x.documents) it.now
 
   -- ---- its way stands
 
   pub its : IsReachedAt (now_of l.event []) l.nav
   its =
-      reached_at m l.nav (at_now (λ (x : Seen). is_reached x l.nav ≡ true) (begun.reached_then l it.check it.before it.t it.p it.unbegun it.q it.starts it.state_is it.replaces))
+      reached_at m l.nav (at_now (λ (x : Seen). is_reached x l.nav ≡ true) (begun.reached_then l it.loads l.before it.t it.p it.unbegun it.q it.starts it.state_is it.replaces))
 
   -- nobody above stops the walk
   pub unstopped : list_any (is_stopping m.history.rows (aim_of m) m.places) its.place.above ≡ false
@@ -154,7 +154,7 @@ module _ (l : InLoadPass) (u : Tables) (it : IsToMake l u) where
 
   pub none_has : (doc : DocId) (d : Document) → document_of (now_of l.event []) doc ≡ Some d → (d.state.0 == l.state.0) ≡ false
   none_has doc d found =
-      begun.none_has l it.check it.before it.t it.p it.unbegun it.q it.starts it.state_is it.replaces doc d (ap (λ (x : Seen). document_of x doc) (sym it.now) ∙ found)
+      begun.none_has l it.loads l.before it.t it.p it.unbegun it.q it.starts it.state_is it.replaces doc d (ap (λ (x : Seen). document_of x doc) (sym it.now) ∙ found)
 
   -- each document is found by its number
   pub by_number : (d : Document) → Has (now_of l.event []).documents d → document_of (now_of l.event []) d.nr ≡ Some d
@@ -162,7 +162,7 @@ module _ (l : InLoadPass) (u : Tables) (it : IsToMake l u) where
 
   pub unmade_now : made_for (now_of l.event []).documents l.state ≡ None
   unmade_now =
-      at_now (λ (x : Seen). made_for x.documents l.state ≡ None) (begun.unmade l it.check it.before it.t it.p it.unbegun it.q it.starts it.state_is it.replaces)
+      at_now (λ (x : Seen). made_for x.documents l.state ≡ None) (begun.unmade l it.loads l.before it.t it.p it.unbegun it.q it.starts it.state_is it.replaces)
 
   needs_one : needs_document m l.nav l.state ≡ true
   needs_one =
@@ -210,7 +210,7 @@ module _ (l : InLoadPass) (u : Tables) (it : IsToMake l u) where
 
   apart_number : (other : ReqId) (x : Asked) → request_of m other ≡ Some x → is_ongoing_load x ≡ true → x.state ≡ Some l.state → other.0 ≡ l.req.0
   apart_number other x at on is =
-      passing_now.going.tab.loading.apart other l.req (look x) (look own_then) l.state (ap (λ (o : Option Asked). option_map look o) at) (ap (λ (o : Option Asked). option_map look o) found_then) on (begun.ongoing_own l it.check it.before it.t it.p it.unbegun it.q it.starts it.state_is it.replaces) is it.state_is
+      passing_now.going.tab.loading.apart other l.req (look x) (look own_then) l.state (ap (λ (o : Option Asked). option_map look o) at) (ap (λ (o : Option Asked). option_map look o) found_then) on (begun.ongoing_own l it.loads l.before it.t it.p it.unbegun it.q it.starts it.state_is it.replaces) is it.state_is
 
   alone_state : IsAloneWith m l.req l.state
   alone_state other x apart_ at = by_tests (is_ongoing_load x) (x.state) refl refl
@@ -231,7 +231,7 @@ module _ (l : InLoadPass) (u : Tables) (it : IsToMake l u) where
 
   loads_state : load_of_state m l.state ≡ Some own_then
   loads_state =
-      ongoing_there m l.req own_then l.state found_then (begun.ongoing_own l it.check it.before it.t it.p it.unbegun it.q it.starts it.state_is it.replaces) it.state_is alone_state
+      ongoing_there m l.req own_then l.state found_then (begun.ongoing_own l it.loads l.before it.t it.p it.unbegun it.q it.starts it.state_is it.replaces) it.state_is alone_state
 
   -- and the table's
   pub unmade_load : IsUnmadeLoad (now_of l.event []) u.loads l.nav l.state
@@ -254,7 +254,7 @@ module _ (l : InLoadPass) (u : Tables) (it : IsToMake l u) where
           by_state false is = refl
           by_state true is =
               let same : x.req.0 ≡ l.req.0 = apart_number x.req tied.q tied.found tied.ongoing (tied.state ∙ ap (λ (k : StateId). let o : Option StateId = Some k in o) (sym (state_same l.state x.state is))) in
-              absurd (begun.table_apart l it.check it.before it.t it.p it.unbegun it.q it.starts it.state_is it.replaces other x (ap (λ (y : Tables). ongoing_load other y.loads) (sym it.tables) ∙ at) apart_ same)
+              absurd (begun.table_apart l it.loads l.before it.t it.p it.unbegun it.q it.starts it.state_is it.replaces other x (ap (λ (y : Tables). ongoing_load other y.loads) (sym it.tables) ∙ at) apart_ same)
 
   -- ---- orders may be for it
 

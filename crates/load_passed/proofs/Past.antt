@@ -2,9 +2,9 @@
 use Rattle.check_facts.proofs.Tables.{check_ended}
 use Rattle.checking_facts.specs.Checks.{NumbersNext}
 use Rattle.load_passed.proofs.Held.{begins_past, heard_table, left_table}
-use Rattle.load_passed.proofs.Start.{start_awake, start_make}
+use Rattle.load_passed.proofs.Start.{start_make, start_settled, start_taken}
 use Rattle.load_passed.proofs.Asking.{load_leaves}
-use Rattle.load_passed.specs.Passing.{IsLoadToPass, IsToMake, IsUnwoken, load_tables}
+use Rattle.load_passed.specs.Passing.{IsLoadToPass, IsToMake, WasSettled, WasTaken, load_tables}
 use Rattle.load_table.specs.Loads.{cancelled, ongoing_load}
 use Rattle.load_table.specs.declared.phase.Phase.TheVariants as phases
 use Rattle.log_model.specs.Formed.{awaits_answer}
@@ -17,7 +17,7 @@ use Rattle.log_model.specs.declared.row_kind.RowKind.TheVariants as rows
 use Rattle.log_model.specs.declared.row_kind.RowKind.{RowKind}
 use Rattle.move_queue.specs.Queue.{Queue}
 use Rattle.seen_facts.specs.LoadEnds.Standing.{is_reached}
-use Rattle.seen_laws.specs.InEvent.{InEvent, OwesNothing, now_of}
+use Rattle.seen_laws.specs.InEvent.{InEvent, OwesNothing}
 use Rattle.seen_laws.specs.Unasked.{unasked}
 use Rattle.log_model.proofs.Refl.{nat_eq_refl}
 use Rattle.log_model.specs.Once.{loads}
@@ -31,6 +31,7 @@ use Rattle.tab_ids.specs.declared.ReqId.{ReqId}
 use Rattle.tab_ids.specs.declared.StateId.{StateId}
 use Rattle.tab_passed.proofs.Heard as heard
 use Rattle.tab_passed.proofs.Left as left
+use Rattle.tab_passed.proofs.Start.{quiet}
 use Rattle.tab_passed.specs.Passing.{HasPassedBy, LeavesAsking}
 use Rattle.tab_prompts.specs.Asking.{BeginsAsked}
 use Rattle.tab_stands.specs.Checked.{ChecksStand}
@@ -51,11 +52,15 @@ module _ (was : ReqId → Bool) (e : InEvent) (t : Tables) (queue : Queue) (blam
     pub left_by : HasPassedBy e (ended req t.checks) (cancelled nav t.asking)
     left_by = left.left_passed was e t.checks asks lasts uncut undue req q pass.passes leaves by_user own awaits
 
-    pub left_awake : IsUnwoken e (now_of e [])
-    left_awake =
-        start_awake was e t queue blame stands lasts room header free req q nav mode address replace state pass rest hand reached alone (ended req t.checks) left_by (left.left_steps was e t.checks asks lasts uncut undue req q pass.passes leaves by_user own awaits)
+    pub left_settled : WasSettled (record { event = e; before = quiet was e; loads = rest; req = req; nav = nav; mode = mode; address = address; replace = replace; state = state; queue = queue; noted = blame }) t.running
+    left_settled =
+        start_settled was e t queue blame stands lasts room header free req q nav mode address replace state pass rest hand reached alone (ended req t.checks) left_by (left.left_steps was e t.checks asks lasts uncut undue req q pass.passes leaves by_user own awaits)
 
-    pub left_make : IsToMake (record { event = e; loads = rest; req = req; nav = nav; mode = mode; address = address; replace = replace; state = state; queue = queue; noted = blame }) (load_tables t (record { req = req; nav = nav; address = address; replace = replace; state = state; phase = phases.Asking }) (ended req t.checks))
+    pub left_taken : WasTaken (record { event = e; before = quiet was e; loads = rest; req = req; nav = nav; mode = mode; address = address; replace = replace; state = state; queue = queue; noted = blame }) t.running
+    left_taken =
+        start_taken was e t queue blame stands lasts room header free req q nav mode address replace state pass rest hand reached alone (ended req t.checks) left_by (left.left_steps was e t.checks asks lasts uncut undue req q pass.passes leaves by_user own awaits)
+
+    pub left_make : IsToMake (record { event = e; before = quiet was e; loads = rest; req = req; nav = nav; mode = mode; address = address; replace = replace; state = state; queue = queue; noted = blame }) (load_tables t (record { req = req; nav = nav; address = address; replace = replace; state = state; phase = phases.Asking }) (ended req t.checks))
     left_make =
         start_make was e t queue blame stands lasts room header free req q nav mode address replace state pass rest hand reached alone (ended req t.checks) left_by (left.left_steps was e t.checks asks lasts uncut undue req q pass.passes leaves by_user own awaits)
 
@@ -71,11 +76,15 @@ module _ (was : ReqId → Bool) (e : InEvent) (t : Tables) (queue : Queue) (blam
     heard_by =
         heard.table_passed was e t.checks asks lasts stands.between.tab.desks uncut undue req q pass.passes leaves proc job verdict is waited goes
 
-    pub heard_awake : IsUnwoken e (now_of e [])
-    heard_awake =
-        start_awake was e t queue blame stands lasts room header free req q nav mode address replace state pass rest hand reached alone (ended req (told_of job verdict req t.checks)) heard_by (heard.heard_steps was e t.checks asks lasts stands.between.tab.desks uncut undue req q pass.passes leaves proc job verdict is)
+    pub heard_settled : WasSettled (record { event = e; before = quiet was e; loads = rest; req = req; nav = nav; mode = mode; address = address; replace = replace; state = state; queue = queue; noted = blame }) t.running
+    heard_settled =
+        start_settled was e t queue blame stands lasts room header free req q nav mode address replace state pass rest hand reached alone (ended req (told_of job verdict req t.checks)) heard_by (heard.heard_steps was e t.checks asks lasts stands.between.tab.desks uncut undue req q pass.passes leaves proc job verdict is)
 
-    pub heard_make : IsToMake (record { event = e; loads = rest; req = req; nav = nav; mode = mode; address = address; replace = replace; state = state; queue = queue; noted = blame }) (load_tables t (record { req = req; nav = nav; address = address; replace = replace; state = state; phase = phases.Asking }) (ended req (told_of job verdict req t.checks)))
+    pub heard_taken : WasTaken (record { event = e; before = quiet was e; loads = rest; req = req; nav = nav; mode = mode; address = address; replace = replace; state = state; queue = queue; noted = blame }) t.running
+    heard_taken =
+        start_taken was e t queue blame stands lasts room header free req q nav mode address replace state pass rest hand reached alone (ended req (told_of job verdict req t.checks)) heard_by (heard.heard_steps was e t.checks asks lasts stands.between.tab.desks uncut undue req q pass.passes leaves proc job verdict is)
+
+    pub heard_make : IsToMake (record { event = e; before = quiet was e; loads = rest; req = req; nav = nav; mode = mode; address = address; replace = replace; state = state; queue = queue; noted = blame }) (load_tables t (record { req = req; nav = nav; address = address; replace = replace; state = state; phase = phases.Asking }) (ended req (told_of job verdict req t.checks)))
     heard_make =
         start_make was e t queue blame stands lasts room header free req q nav mode address replace state pass rest hand reached alone (ended req (told_of job verdict req t.checks)) heard_by (heard.heard_steps was e t.checks asks lasts stands.between.tab.desks uncut undue req q pass.passes leaves proc job verdict is)
 

@@ -33,7 +33,6 @@ use Rattle.tab_ids.specs.declared.ReqId.{ReqId}
 use Rattle.tab_ids.specs.declared.StateId.{StateId}
 use Rattle.tab_moves.specs.Making.{home_in}
 use Rattle.tab_stands.specs.PassedOn.{IsReadyLoadOf, LeavesQueue}
-use Rattle.tab_stands.specs.Standing.{InCheck}
 use Rattle.unasked.proofs.Passings.{begun_as}
 use Rattle.unasked_tab.proofs.Begun.{with_begun}
 
@@ -51,10 +50,10 @@ new_unusable true = refl
 new_unusable false = refl
 
 -- a log in which the load has begun, of which no document was made that wasn't there or is usable
-module _ (l : InLoadPass) (check : InCheck) (s : Seen) (t : Tables) (p : Asked) (un : IsUnbegun l check s t p) (q : Asked) (starts : q.is_started ≡ true) (state_is : q.state ≡ Some l.state) (replaces : l.replace ≡ q.replaces) where
+module _ (l : InLoadPass) (hand : List ReqId) (s : Seen) (t : Tables) (p : Asked) (un : IsUnbegun l hand s t p) (q : Asked) (starts : q.is_started ≡ true) (state_is : q.state ≡ Some l.state) (replaces : l.replace ≡ q.replaces) where
   -- no document of its own state is there
   none_usable : list_any (λ (d : Document). is_usable d l.state) s.documents ≡ false
-  none_usable = none_any (λ (d : Document). is_usable d l.state) s.documents (λ d has. let no : (d.state.0 == l.state.0) ≡ false = begun.none_has l check s t p un q starts state_is replaces d.nr d (found_itself s.documents d un.stands.between.tab.whose.numbered has) in rw no refl)
+  none_usable = none_any (λ (d : Document). is_usable d l.state) s.documents (λ d has. let no : (d.state.0 == l.state.0) ≡ false = begun.none_has l hand s t p un q starts state_is replaces d.nr d (found_itself s.documents d un.going.tab.whose.numbered has) in rw no refl)
 
   module _ (n : Seen) (own : request_of n l.req ≡ Some (begun_as q p)) (other : (r : ReqId) → (r.0 == l.req.0) ≡ false → request_of n r ≡ request_of s r) (same : (k : StateId) → list_any (λ (d : Document). is_usable d k) n.documents ≡ list_any (λ (d : Document). is_usable d k) s.documents) where
     document_same : (o : Option StateId) → holds (λ (k : StateId). list_any (λ (d : Document). is_usable d k) n.documents) o ≡ holds (λ (k : StateId). list_any (λ (d : Document). is_usable d k) s.documents) o
@@ -84,7 +83,7 @@ module _ (l : InLoadPass) (check : InCheck) (s : Seen) (t : Tables) (p : Asked) 
       record {
         joined = refl;
         whats = on_read (λ (x : Asked). x.what) s.requests l.req (begun_as q) (λ x. refl);
-        ready = ready_back (with_begun s l.req q) (begun.there l check s t p un q starts state_is replaces) (begun.other l check s t p un q starts state_is replaces) (λ k. refl);
+        ready = ready_back (with_begun s l.req q) (begun.there l hand s t p un q starts state_is replaces) (begun.other l hand s t p un q starts state_is replaces) (λ k. refl);
       }
 
 -- once its document is being made
@@ -102,14 +101,14 @@ module _ (l : InLoadPass) (u : Tables) (it : IsToMake l u) (proc : ProcId) (home
   abbrev new : Document
   new = new_document (now_of l.event []) order l.nav l.state
 
-  unready : (k : StateId) → list_any (λ (d : Document). is_usable d k) fin.documents ≡ list_any (λ (d : Document). is_usable d k) it.before.documents
+  unready : (k : StateId) → list_any (λ (d : Document). is_usable d k) fin.documents ≡ list_any (λ (d : Document). is_usable d k) l.before.documents
   unready k =
       any_more (λ (d : Document). is_usable d k) m.documents new (new_unusable (l.state.0 == k.0)) ∙ ap (λ (x : List Document). list_any (λ (d : Document). is_usable d k) x) (makes.documents_same l u it)
 
-  pub left_fin : LeavesQueue it.before (next (now_of l.event []) l.event.event l.event.actor (rows.Sent (order_of l u proc)))
+  pub left_fin : LeavesQueue l.before (next (now_of l.event []) l.event.event l.event.actor (rows.Sent (order_of l u proc)))
   left_fin =
       record {
         joined = ap (λ (x : Seen). x.joined) it.now;
         whats = kept.reads_on l u it proc home y last work_y last_is keeps_y (λ (x : Asked). x.what) (λ x. refl);
-        ready = ready_back l it.check it.before it.t it.p it.unbegun it.q it.starts it.state_is it.replaces fin (kept.found_fin l u it proc home y last work_y last_is keeps_y) (kept.other_same l u it proc home y last work_y last_is keeps_y) unready;
+        ready = ready_back l it.loads l.before it.t it.p it.unbegun it.q it.starts it.state_is it.replaces fin (kept.found_fin l u it proc home y last work_y last_is keeps_y) (kept.other_same l u it proc home y last work_y last_is keeps_y) unready;
       }

@@ -75,7 +75,7 @@ module _ (l : InLoadPass) (u : Tables) (it : IsToMake l u) (proc : ProcId) (home
 
   pub tab_fin : IsTab u.running l.loads [] (next (now_of l.event []) l.event.event l.event.actor (rows.Sent (order_of l u proc)))
   tab_fin =
-      make_load_tab u.running l.loads [] m l.event.event l.event.actor passing_now.going.tab order l.req (begun_as it.q it.p) l.nav l.state l.address false refl make_of (record { found = makes.found_then l u it; ongoing = begun.ongoing_own l it.check it.before it.t it.p it.unbegun it.q it.starts it.state_is it.replaces; loads_it = ap (λ (w : Request). loads l.nav w) it.unbegun.what ∙ nat_eq_refl l.nav.0; own = it.state_is })
+      make_load_tab u.running l.loads [] m l.event.event l.event.actor passing_now.going.tab order l.req (begun_as it.q it.p) l.nav l.state l.address false refl make_of (record { found = makes.found_then l u it; ongoing = begun.ongoing_own l it.loads l.before it.t it.p it.unbegun it.q it.starts it.state_is it.replaces; loads_it = ap (λ (w : Request). loads l.nav w) it.unbegun.what ∙ nat_eq_refl l.nav.0; own = it.state_is })
 
   pub going_fin : IsGoing u.running l.loads [] (next (now_of l.event []) l.event.event l.event.actor (rows.Sent (order_of l u proc)))
   going_fin =

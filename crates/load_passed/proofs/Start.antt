@@ -1,10 +1,17 @@
 -- A load passes its check by an event's own row: what stood as the event began, with it in its check, is what its document may be made from.
+use Rattle.load_passed.proofs.Taking.{live_before, taking}
+use Rattle.tab_stands.proofs.LateEvents.{late_off}
+use Rattle.row_facts.specs.FrameRows.Lawful.{held_at_first}
+use Rattle.tab_stands.proofs.Ready.{frees_open}
+use Rattle.tab_settles.specs.Offs.{LateKnown}
+use Rattle.tab_stands.specs.PassedOn.{IsTaking}
+use Rattle.tab_stands.specs.Offs.{AreOffKnown}
 use Rattle.load_doors.proofs.Starts.{requests_start}
 use Rattle.load_doors.specs.Tied.{AreTied}
 use Rattle.load_passed.proofs.Begun as begun
 use Rattle.load_passed.proofs.Fresh.{fresh_state}
 use Rattle.load_passed.proofs.Queues.{left_then}
-use Rattle.load_passed.specs.Passing.{InLoadPass, IsAsAfterPass, IsLoadToPass, IsToMake, IsUnbegun, IsUnwoken, load_tables, passed_load}
+use Rattle.load_passed.specs.Passing.{InLoadPass, IsLoadToPass, IsToMake, GoesOnBeside, IsUnbegun, WasSettled, WasTaken, load_tables, passed_load}
 use Rattle.load_table.specs.Loads.{cancelled, ongoing_load}
 use Rattle.load_table.specs.declared.phase.Phase.TheVariants as phases
 use Rattle.log_model.specs.Causes.{denial_at_acceptance}
@@ -28,14 +35,13 @@ use Rattle.std.proofs.Common.{Bool, List, None, Option, Some, [], ap, arith, fal
 use Rattle.std.proofs.lemmas.Bool.Decides.{nat_tests}
 use Rattle.std.proofs.lemmas.Bool.{and_parts}
 use Rattle.std.specs.Prelude.{is_none, nat_lt}
-use Rattle.tab_doors.specs.Working.{IsAtWork}
+use Rattle.tab_doors.specs.Working.{IsAtWork, MayDiscardIn}
 use Rattle.tab_doors.specs.declared.tables.Tables.{Tables}
 use Rattle.tab_facts.proofs.TabGoing.Counts.{as_many}
 use Rattle.tab_facts.specs.TabGoing.Going.{IsGoing}
 use Rattle.tab_ids.specs.declared.NavId.{NavId}
 use Rattle.tab_ids.specs.declared.ReqId.{ReqId}
 use Rattle.tab_ids.specs.declared.StateId.{StateId}
-use Rattle.tab_one_pass.proofs.Opens.{still_left}
 use Rattle.tab_passed.proofs.Free.{still_none}
 use Rattle.tab_passed.proofs.Ready.{IsBefore, work_passed}
 use Rattle.tab_passed.proofs.Start.{at_start, now_begun, quiet, quiet_then, unbegun_there}
@@ -68,7 +74,7 @@ module _ (was : ReqId → Bool) (e : InEvent) (t : Tables) (queue : Queue) (blam
   -- the load, and its event
   abbrev l : InLoadPass
   l =
-      record { event = e; loads = rest; req = req; nav = nav; mode = mode; address = address; replace = replace; state = state; queue = queue; noted = blame }
+      record { event = e; before = quiet was e; loads = rest; req = req; nav = nav; mode = mode; address = address; replace = replace; state = state; queue = queue; noted = blame }
 
   -- the log without questions but for that it hasn't begun
   abbrev s : Seen
@@ -92,10 +98,18 @@ module _ (was : ReqId → Bool) (e : InEvent) (t : Tables) (queue : Queue) (blam
   same_many : length s.requests ≡ length e.start.requests
   same_many = requests_start (record e { checking = was })
 
-  un : IsUnbegun l check s t p
+  un : IsUnbegun l check.loads s t p
   un =
       record {
-        stands = stands_s;
+        going = record {
+          tab = stands_s.between.tab;
+          lasting = stands_s.lasts.lasting;
+          counted = stands_s.lasts.counted;
+          steps = stands_s.lasts.steps;
+          held = stands_s.lasts.held;
+          room = (let few : length e.start.requests + 3 < 4294967296 = room in let same = same_many in omega (arith, few, same));
+        };
+        tied = stands_s.tied;
         hand = hand;
         there = unbegun_there was e req q pass.passes (own.numbered req q pass.passes.at);
         what = pass.what;
@@ -105,8 +119,25 @@ module _ (was : ReqId → Bool) (e : InEvent) (t : Tables) (queue : Queue) (blam
         fresh = record { numbered = fresh.numbered; unheld = fresh.unheld; undocumented = fresh.undocumented; free = fresh.free };
         reached = reached;
         alone = alone;
-        room = (let few : length e.start.requests + 3 < 4294967296 = room in let same = same_many in omega (arith, few, same));
       }
+
+  beside : GoesOnBeside l t
+  beside =
+      record {
+        rests = stands_s.between.rests;
+        few = stands_s.between.few;
+        queued = stands_s.queue;
+        live = live_before e check s t queue blame stands_s;
+        theirs = stands_s.lasts.made;
+        makes = stands_s.lasts.makes;
+        sound = stands_s.lasts.sound;
+        moved = stands_s.lasts.moved;
+        late = late_of t.running stands_s.lasts.off;
+      }
+    where
+      late_of : (r : Option ReqId) → AreOffKnown r s → LateKnown r s
+      late_of (Some run) known = tt
+      late_of None known = λ nav place doc late shown. known.since refl nav place late.placed shown (late_off s nav place doc late) late.old
 
   -- ---- the row leaves it begun
 
@@ -121,13 +152,13 @@ module _ (was : ReqId → Bool) (e : InEvent) (t : Tables) (queue : Queue) (blam
 
   work : IsAtWork e [] u
   work =
-      work_passed e u own (over (λ (x : Seen). AreTied x u) (begun.tied_then l check s t p un q begins.0 pass.state_is pass.replaces checks))
+      work_passed e u own (over (λ (x : Seen). AreTied x u) (begun.tied_then l check.loads s t p un q begins.0 pass.state_is pass.replaces checks))
 
   loose : IsLoose e []
   loose = loose_first e own.undue
 
   going : IsGoing t.running rest [] n
-  going = begun.going_then l check s t p un q begins.0 pass.state_is pass.replaces
+  going = begun.going_then l check.loads s t p un q begins.0 pass.state_is pass.replaces
 
   passing : IsPassing (record { event = e; loads = rest; hand = [] }) [] u
   passing =
@@ -151,19 +182,35 @@ module _ (was : ReqId → Bool) (e : InEvent) (t : Tables) (queue : Queue) (blam
 
   before : IsBefore e s
   before =
-      at_start was e t queue blame stands (λ r x its. unheld_n r x (begun.load_on l check s t p un q begins.0 pass.state_is pass.replaces r x its))
+      at_start was e t queue blame stands (λ r x its. unheld_n r x (begun.load_on l check.loads s t p un q begins.0 pass.state_is pass.replaces r x its))
 
-  after_pass : IsAsAfterPass l check s
-  after_pass =
+  unheld : has_req (held_at_first e) req ≡ false
+  unheld =
+      unheld_n req nav (begun.load_own l check.loads s t p un q begins.0 pass.state_is pass.replaces)
+
+  -- ---- how the tab was
+
+  -- at rest
+  pub start_settled : WasSettled (record { event = e; before = quiet was e; loads = rest; req = req; nav = nav; mode = mode; address = address; replace = replace; state = state; queue = queue; noted = blame }) t.running
+  start_settled =
       record {
         passed = before.passed;
-        unheld = unheld_n req nav (begun.load_own l check s t p un q begins.0 pass.state_is pass.replaces);
-        free = λ none. still_none was e.checking e.start (log_of e []) req pass.passes.off pass.passes.same steps (free none);
+        strays = stands_s.strays;
+        served = stands_s.between.served;
+        told = stands_s.between.told;
+        calm = stands_s.lasts.calm;
       }
 
-  -- nobody was woken
-  pub start_awake : IsUnwoken e (now_of e [])
-  start_awake = over (λ (x : Seen). IsUnwoken e x) (record { unwoken = before.unwoken; still = still_left e.start s n refl refl before.still })
+  -- and a pass might follow, as nobody was woken
+  pub start_taken : WasTaken (record { event = e; before = quiet was e; loads = rest; req = req; nav = nav; mode = mode; address = address; replace = replace; state = state; queue = queue; noted = blame }) t.running
+  start_taken = record { taken = taken; frees = frees_open e check.holds t.running s stands_s.alone free_then taken.open_ }
+    where
+      taken : IsTaking e t.running blame s
+      taken = taking e check s t queue blame stands_s before.passed before.unwoken before.still
+
+      free_then : check.holds ≡ false → MayDiscardIn false e
+      free_then none =
+          still_none was e.checking e.start (log_of e []) req pass.passes.off pass.passes.same steps (free none)
 
   -- ---- what waits, and what is held back
 
@@ -183,7 +230,7 @@ module _ (was : ReqId → Bool) (e : InEvent) (t : Tables) (queue : Queue) (blam
 
       all_s : all_stand s (aim_of s) ≡ true
       all_s =
-          ap (λ (k : ℕ). all_stand s k) (sym (begun.aim_then l check s t p un q begins.0 pass.state_is pass.replaces)) ∙ all_n
+          ap (λ (k : ℕ). all_stand s k) (sym (begun.aim_then l check.loads s t p un q begins.0 pass.state_is pass.replaces)) ∙ all_n
 
       by_run : (o : Option ReqId) → t.running ≡ o → ⊥
       by_run None is = some (ap (λ (x : Seen). x.parked) now ∙ stands_s.between.held is)
@@ -196,8 +243,8 @@ module _ (was : ReqId → Bool) (e : InEvent) (t : Tables) (queue : Queue) (blam
   queueing =
       record {
         waits = waiting_first e own.uncut (over (λ (x : Seen). AreKnown x) going.tab.known) early;
-        queued = over (λ (x : Seen). HasQueue x t.running queue.waiting) (queue_over s n (left_then l check s t p un q begins.0 pass.state_is pass.replaces) t.running queue.waiting stands_s.queue);
-        parked = stands_s.parked ∙ sym (held_alike s.requests n.requests s.parked (mades_same s n (begun.wishes l check s t p un q begins.0 pass.state_is pass.replaces))) ∙ ap (λ (x : Seen). held_back x.requests x.parked) (sym now);
+        queued = over (λ (x : Seen). HasQueue x t.running queue.waiting) (queue_over s n (left_then l check.loads s t p un q begins.0 pass.state_is pass.replaces) t.running queue.waiting stands_s.queue);
+        parked = stands_s.parked ∙ sym (held_alike s.requests n.requests s.parked (mades_same s n (begun.wishes l check.loads s t p un q begins.0 pass.state_is pass.replaces))) ∙ ap (λ (x : Seen). held_back x.requests x.parked) (sym now);
         held = λ none. ap (λ (x : Seen). x.parked) now ∙ stands_s.between.held none;
         over = λ has. absurd (none_applied e own.uncut has);
         releasing = λ some all. absurd (stands_not some all);
@@ -205,15 +252,15 @@ module _ (was : ReqId → Bool) (e : InEvent) (t : Tables) (queue : Queue) (blam
 
   -- ---- all of it
 
-  pub start_make : IsToMake (record { event = e; loads = rest; req = req; nav = nav; mode = mode; address = address; replace = replace; state = state; queue = queue; noted = blame }) (load_tables t (record { req = req; nav = nav; address = address; replace = replace; state = state; phase = phases.Asking }) checks)
+  pub start_make : IsToMake (record { event = e; before = quiet was e; loads = rest; req = req; nav = nav; mode = mode; address = address; replace = replace; state = state; queue = queue; noted = blame }) (load_tables t (record { req = req; nav = nav; address = address; replace = replace; state = state; phase = phases.Asking }) checks)
   start_make =
       record {
-        check = check;
-        before = s;
+        loads = check.loads;
         t = t;
         p = p;
         unbegun = un;
-        after_pass = after_pass;
+        beside = beside;
+        unheld = unheld;
         q = q;
         starts = begins.0;
         state_is = pass.state_is;

@@ -1,5 +1,14 @@
 -- A load passes its unload check: it is ongoing from then on, and its document is to be made.
 -- HTML Standard, "navigate", "checking if unloading is canceled" and "attempt to populate the history entry's document". Who is in its check, the table of checks, and the log without questions are this project's own.
+use Rattle.log_model.specs.ActsAtOnce.{ends_told}
+use Rattle.log_model.specs.declared.job.Why.{Why}
+use Rattle.tab_settles.specs.Offs.{LateKnown}
+use Rattle.tab_facts.specs.TabGoing.Going.{IsGoing}
+use Rattle.load_doors.specs.Tied.{AreTied}
+use Rattle.seen_facts.specs.Walk.Serving.{AreServed}
+use Rattle.tab_facts.specs.FrameWhole.Tab.{AreAwakeWithRows}
+use Rattle.tab_facts.specs.TabEvents.Between.{AreSwept, orders_go}
+use Rattle.row_facts.specs.RestRows.Moving.{AllRest}
 use Rattle.leave_facts.proofs.Carried.{AreLeftDuly}
 use Rattle.load_table.specs.Loads.{begun, cancelled, ongoing_load}
 use Rattle.load_table.specs.declared.load.Load.{Load}
@@ -17,20 +26,18 @@ use Rattle.log_model.specs.declared.row_kind.RowKind.{RowKind}
 use Rattle.move_queue.specs.Queue.{Queue}
 use Rattle.row_facts.specs.FrameRows.Lawful.{held_at_first}
 use Rattle.row_facts.specs.Owed.Owed.{IsLoose}
-use Rattle.row_facts.specs.WalkRows.Since.{AwakeSince}
-use Rattle.seen_facts.specs.LoadEnds.Standing.{is_reached}
+use Rattle.seen_facts.specs.LoadEnds.Standing.{LoadsStand, is_reached}
 use Rattle.seen_laws.specs.InEvent.{InEvent, log_of, now_of}
-use Rattle.std.specs.Prelude.{Bool, List, None, Some, [], false, length, true, ℕ, ◌+◌, ◌<◌, ◌∷◌, ◌≡◌}
-use Rattle.tab_doors.specs.Working.{IsAtWork, MayDiscardIn}
+use Rattle.std.specs.Prelude.{Option, Bool, List, None, Some, [], false, length, true, ℕ, ◌∷◌, ◌≡◌, ◌≤◌, ◌⊎◌}
+use Rattle.tab_doors.specs.Working.{IsAtWork}
 use Rattle.tab_doors.specs.declared.tables.Tables.{Tables}
 use Rattle.tab_ids.specs.declared.NavId.{NavId}
 use Rattle.tab_ids.specs.declared.ReqId.{ReqId}
 use Rattle.tab_ids.specs.declared.StateId.{StateId}
-use Rattle.tab_one_pass.specs.Passing.{HasPassed, StillAwake}
+use Rattle.tab_one_pass.specs.Passing.{HasPassed}
 use Rattle.tab_passed.specs.Passing.{PassesCheck}
-use Rattle.tab_settles.specs.PassedOn.{InPass}
-use Rattle.tab_settles.specs.Settling.{HasPut, HasSettled, IsQueueing, IsReady, MakesServe, OrdersAreSound}
-use Rattle.tab_stands.specs.Standing.{InCheck, StandsFor}
+use Rattle.tab_settles.specs.PassedOn.{AreBlamed, AreLeftStrays, HasQueue, InPass, IsOpen, IsTaking, LoadsLive, LoadsMadeOwn, MayCause, MayStand}
+use Rattle.tab_settles.specs.Settling.{FreesVisited, HasPut, HasSettled, IsCalmAfter, IsCalmBefore, IsQueueing, IsReady, IsReadyIn, MakesServe, MovedAreShown, OrdersAreSound}
 use Rattle.unasked_tab.proofs.Begun.{with_begun}
 use Rattle.unasked_tab.proofs.Reordered.{AreAsOften}
 use Rattle.unasked_tab.specs.Passing.{IsFreshState}
@@ -46,9 +53,10 @@ pub record IsLoadToPass (was : ReqId → Bool) (e : InEvent) (req : ReqId) (q : 
   pub state_is : q.state ≡ Some state
   pub replaces : replace ≡ q.replaces
 
--- an event, the requests at hand once the load has passed, the load, the queue, and the requests that are noted for stray documents
+-- an event, what its log without questions would be had the load not passed, the requests at hand once it has, the load, the queue, and the requests that are noted for stray documents
 pub record InLoadPass : Type 0 where
   pub event : InEvent
+  pub before : Seen
   pub loads : List ReqId
   pub req : ReqId
   pub nav : NavId
@@ -77,10 +85,11 @@ load_tables t load checks =
 
 -- ---- before it passes
 
--- the log without questions but for that the load hasn't begun: the coordinator stands for it, with the load at hand, which is open and went nowhere; its document state is nothing's yet, its navigable stands with all above it, and no load of that is ongoing
-pub record IsUnbegun (l : InLoadPass) (check : InCheck) (s : Seen) (t : Tables) (p : Asked) : Type 0 where
-  pub stands : StandsFor check s t l.queue l.noted
-  pub hand : AreAsOften check.loads (l.req ∷ l.loads)
+-- the log without questions but for that the load hasn't begun: a coordinator goes on in it, with these requests at hand, the load among them, which is open and went nowhere; the tables tell of it; the load's document state is nothing's yet, its navigable stands with all above it, and no load of that is ongoing
+pub record IsUnbegun (l : InLoadPass) (loads : List ReqId) (s : Seen) (t : Tables) (p : Asked) : Type 0 where
+  pub going : IsGoing t.running loads [] s
+  pub tied : AreTied s t
+  pub hand : AreAsOften loads (l.req ∷ l.loads)
   pub there : request_of s l.req ≡ Some p
   pub what : p.what ≡ requests.Load l.nav l.mode l.address
   pub open_ : p.ending ≡ None
@@ -89,40 +98,80 @@ pub record IsUnbegun (l : InLoadPass) (check : InCheck) (s : Seen) (t : Tables) 
   pub fresh : IsFreshState s l.state
   pub reached : is_reached s l.nav ≡ true
   pub alone : ongoing_load l.nav t.loads ≡ None
-  pub room : length s.requests + 2 < 4294967296
 
--- all is there as after a pass; the load wasn't held back, and no step is in its check where no traversal in its check holds the queue
-pub record IsAsAfterPass (l : InLoadPass) (check : InCheck) (s : Seen) : Type 0 where
-  pub passed : HasPassed l.event s
-  pub unheld : has_req (held_at_first l.event) l.req ≡ false
-  pub free : check.holds ≡ false → MayDiscardIn false l.event
-
--- who is awake was so as the event began, and the other way round
-pub record IsUnwoken (e : InEvent) (s : Seen) : Type 0 where
-  pub unwoken : AwakeSince e.start [] s
-  pub still : StillAwake e.start s
+-- what goes on there beside it: what isn't shown rests; so many documents are kept; the queue has what waits; ongoing loads live on, and what was made of one is its own; orders on their way are for what they may be; whom the traversal that runs has moved was shown a document by it, and who is shown and late is so for the load that was applied last
+pub record GoesOnBeside (l : InLoadPass) (t : Tables) : Type 0 where
+  pub rests : AllRest l.before
+  pub few : length l.before.kept ≤ t.kept.keep
+  pub queued : HasQueue l.before t.running l.queue.waiting
+  pub live : LoadsLive l.before
+  pub theirs : LoadsMadeOwn l.before
+  pub makes : MakesServe l.before
+  pub sound : OrdersAreSound l.before
+  pub moved : MovedAreShown t.running l.before
+  pub late : LateKnown t.running l.before
 
 -- ---- it has passed, and has no document yet
 
--- as the event stands the load has passed: a coordinator is at work with it in the table, in a log without questions that is as before but for that the load has begun; nothing is owed, and what waits is known
+-- as the event stands the load has passed: a coordinator is at work with it in the table, in a log without questions that is as before but for that the load has begun; it wasn't held back, nothing is owed, and what waits is known
 pub record IsToMake (l : InLoadPass) (u : Tables) : Type 0 where
-  pub check : InCheck
-  pub before : Seen
+  pub loads : List ReqId
   pub t : Tables
   pub p : Asked
-  pub unbegun : IsUnbegun l check before t p
-  pub after_pass : IsAsAfterPass l check before
+  pub unbegun : IsUnbegun l loads l.before t p
+  pub beside : GoesOnBeside l t
+  pub unheld : has_req (held_at_first l.event) l.req ≡ false
   pub q : Asked
   pub starts : q.is_started ≡ true
   pub state_is : q.state ≡ Some l.state
   pub replaces : l.replace ≡ q.replaces
   pub tables : u ≡ load_tables t (passed_load l) u.checks
-  pub now : now_of l.event [] ≡ with_begun before l.req q
+  pub now : now_of l.event [] ≡ with_begun l.before l.req q
   pub work : IsAtWork l.event [] u
   pub loose : IsLoose l.event []
   pub duly : AreLeftDuly (log_of l.event [])
   pub queueing : IsQueueing (record { event = l.event; loads = l.loads; hand = [] }) [] u l.queue
   pub header : u.kept.keep ≡ l.event.header.keep
+
+-- ---- between the parts of a pass
+
+-- whatever runs, a pass went by up to its walk: one may follow, ongoing loads stand, who is awake has an entry, for each stray document that is left a request is noted, and none is or an order is on its way; so it is where documents are swept, too
+pub record HasCleared (sweeps : Bool) (p : InPass) (out : List RowKind) (t : Tables) (queue : Queue) (blame : List (StateId × ReqId)) (cause : Why) : Type 0 where
+  pub ready : IsReadyIn sweeps p out t queue blame cause
+  pub stand : LoadsStand (now_of p.event out)
+  pub rows_ : AreAwakeWithRows (now_of p.event out)
+  pub strays : AreLeftStrays (now_of p.event out) blame
+  pub swept : AreSwept (now_of p.event out) ⊎ (orders_go (now_of p.event out) ≡ true)
+
+-- ---- how the tab was before it passed
+
+-- at rest: who is visited was served, who is awake was told, and for each stray document a request was noted; where no traversal runs the tab was calm
+pub record WasSettled (l : InLoadPass) (run : Option ReqId) : Type 0 where
+  pub passed : HasPassed l.event l.before
+  pub strays : AreLeftStrays l.before l.noted
+  pub served : AreServed l.before
+  pub told : ends_told l.before ≡ true
+  pub calm : IsCalmAfter run l.before
+
+-- a pass might follow, with orders for this cause
+pub record WasReady (l : InLoadPass) (run : Option ReqId) (cause : Why) : Type 0 where
+  pub open_ : IsOpen l.event run cause l.before
+  pub loads : MayStand run l.before
+  pub frees : FreesVisited l.event l.before
+  pub blamed : AreBlamed l.before l.noted
+  pub calm : IsCalmBefore run cause l.before
+
+-- one went by up to its walk
+pub record WasCleared (l : InLoadPass) (run : Option ReqId) (cause : Why) : Type 0 where
+  pub ready : WasReady l run cause
+  pub stand : LoadsStand l.before
+  pub rows_ : AreAwakeWithRows l.before
+  pub strays : AreLeftStrays l.before l.noted
+
+-- the event's own row was logged, and nothing put out: a pass might follow whatever its orders are for
+pub record WasTaken (l : InLoadPass) (run : Option ReqId) : Type 0 where
+  pub taken : IsTaking l.event run l.noted l.before
+  pub frees : FreesVisited l.event l.before
 
 -- ---- a pass may follow
 
@@ -133,11 +182,15 @@ pub record MakesDocument (l : InLoadPass) (out : List RowKind) : Type 0 where
   pub why : job.why ≡ whys.Req l.req
   pub is : out ≡ rows.Sent job ∷ []
 
--- the load is past its check, and its document is to be made: the tab is at rest, as it was; a pass may follow for it, if nobody was woken in the event; nothing is owed, and orders on their way are for what they may be
+-- the load is past its check, and its document is to be made: nothing is owed, and orders on their way are for what they may be, as they may be for the load; a tab that was at rest is so, a pass may follow where one might, and one that went by up to its walk did; behind an event's own row one may follow for the load
 pub record IsPastLoad (l : InLoadPass) (u : Tables) (out : List RowKind) : Type 0 where
   pub makes_it : MakesDocument l out
-  pub settled : HasSettled (record { event = l.event; loads = l.loads; hand = [] }) out u l.queue l.noted (whys.Req l.req)
-  pub ready : IsUnwoken l.event (now_of l.event []) → IsReady (record { event = l.event; loads = l.loads; hand = [] }) out u l.queue l.noted (whys.Req l.req)
+  pub own : MayCause (now_of l.event out) (whys.Req l.req)
+  pub causes : (why : Why) → MayCause l.before why → MayCause (now_of l.event out) why
+  pub settled : (cause : Why) → MayCause (now_of l.event out) cause → WasSettled l u.running → HasSettled (record { event = l.event; loads = l.loads; hand = [] }) out u l.queue l.noted cause
+  pub ready : (cause : Why) → WasReady l u.running cause → IsReady (record { event = l.event; loads = l.loads; hand = [] }) out u l.queue l.noted cause
+  pub cleared : (cause : Why) → WasCleared l u.running cause → HasCleared false (record { event = l.event; loads = l.loads; hand = [] }) out u l.queue l.noted cause
+  pub taken : WasTaken l u.running → IsReady (record { event = l.event; loads = l.loads; hand = [] }) out u l.queue l.noted (whys.Req l.req)
   pub put : HasPut l.event [] out
   pub loose : IsLoose l.event out
   pub makes : MakesServe (now_of l.event out)

@@ -8,7 +8,7 @@ use Rattle.seen_laws.specs.Unasked.{unasked, unasked_request}
 use Rattle.std.proofs.Common.{Bool, List, [], ap, false, map, refl, sym, true, ℕ, ◌==◌, ◌||◌, ◌∙◌, ◌∷◌, ◌≡◌}
 use Rattle.tab_cuts.proofs.Twice.{unasked_twice}
 use Rattle.tab_ids.specs.declared.ReqId.{ReqId}
-use Rattle.tab_midway.specs.Owing.{brought_to, due_without, goalless}
+use Rattle.tab_midway.specs.Owing.{brought_to, due_without, closed}
 use Rattle.unasked_dues.proofs.Base.{aim_same}
 use Rattle.unasked_dues.specs.Checking.{IsAimed}
 
@@ -48,16 +48,16 @@ module _ (a b c : ReqId → Bool) (both : (r : ReqId) → (a r || b r) ≡ c r) 
 -- ---- brought to a step
 
 module _ (checking : ReqId → Bool) where
-  goalless_bare : (q : Asked) → unasked_request checking (goalless (unasked_request checking q)) ≡ goalless (unasked_request checking q)
-  goalless_bare q = by_test (checking q.nr) refl
+  closed_bare : (q : Asked) → unasked_request checking (closed (unasked_request checking q)) ≡ closed (unasked_request checking q)
+  closed_bare q = by_test (checking q.nr) refl
     where
-      by_test : (b : Bool) → checking q.nr ≡ b → unasked_request checking (goalless (unasked_request checking q)) ≡ goalless (unasked_request checking q)
+      by_test : (b : Bool) → checking q.nr ≡ b → unasked_request checking (closed (unasked_request checking q)) ≡ closed (unasked_request checking q)
       by_test true is = rw is (rw is refl)
       by_test false is = rw is (rw is refl)
 
-  each_goalless : (asked : List Asked) → map (unasked_request checking) (map goalless (map (unasked_request checking) asked)) ≡ map goalless (map (unasked_request checking) asked)
-  each_goalless [] = refl
-  each_goalless (q ∷ asked) = λ i. goalless_bare q i ∷ each_goalless asked i
+  each_closed : (asked : List Asked) → map (unasked_request checking) (map closed (map (unasked_request checking) asked)) ≡ map closed (map (unasked_request checking) asked)
+  each_closed [] = refl
+  each_closed (q ∷ asked) = λ i. closed_bare q i ∷ each_closed asked i
 
   -- nobody is asked there
   pub brought_bare : (step : ℕ) (s : Seen) → unasked checking (brought_to step (unasked checking s)) ≡ brought_to step (unasked checking s)
@@ -65,7 +65,7 @@ module _ (checking : ReqId → Bool) where
       λ i. record (brought_to step (unasked checking s)) {
         documents = ap (λ (x : Seen). x.documents) twice i;
         desks = ap (λ (x : Seen). x.desks) twice i;
-        requests = each_goalless s.requests i;
+        requests = each_closed s.requests i;
         just_finished = ap (λ (x : Seen). x.just_finished) twice i;
       }
     where

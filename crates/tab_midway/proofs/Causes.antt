@@ -13,7 +13,6 @@ use Rattle.log_model.specs.declared.row.Row.{Row}
 use Rattle.seen_laws.specs.Owing.{is_sole_load}
 use Rattle.seen_laws.specs.Unasked.{unasked, unasked_request, unbegun, without_asks}
 use Rattle.std.proofs.Common.{Bool, List, None, Option, Some, [], ap, cond, false, map, not, refl, subst, sym, true, ℕ, ◌&&◌, ◌||◌, ◌∙◌, ◌∷◌, ◌≡◌}
-use Rattle.std.proofs.lemmas.Bool.{and_parts}
 use Rattle.std.specs.List.{list_all}
 use Rattle.std.specs.Option.{option_map_or}
 use Rattle.std.specs.Prelude.{nat_lt, option_map}
@@ -21,7 +20,7 @@ use Rattle.tab_ids.specs.declared.DocId.{DocId}
 use Rattle.tab_ids.specs.declared.NavId.{NavId}
 use Rattle.tab_ids.specs.declared.ReqId.{ReqId}
 use Rattle.tab_ids.specs.declared.Step.{Step}
-use Rattle.tab_midway.specs.Owing.{brought_to, goalless}
+use Rattle.tab_midway.specs.Owing.{brought_to, closed}
 use Rattle.unasked.proofs.Lists.{request_map}
 use Rattle.unasked_dues.specs.Checking.{AllOthersPass, AreNumbered, IsAimed}
 
@@ -33,18 +32,22 @@ either_on false b false d one two is = two is
 
 -- ---- its aim
 
--- where no request has a goal, the history is brought to its current step
-none_leads : (gone : DocId → Bool) (rows_ : List Row) (step : ℕ) (asked : List Asked) → option_map_or (λ (q : Asked). option_map_or (λ (goal : Step). used_step_at rows_ goal.0) q.goal step) (passed_in gone (map goalless asked)) step ≡ step
+-- where each request has ended, the history is brought to its current step
+none_leads : (gone : DocId → Bool) (rows_ : List Row) (step : ℕ) (asked : List Asked) → option_map_or (λ (q : Asked). option_map_or (λ (goal : Step). used_step_at rows_ goal.0) q.goal step) (passed_in gone (map closed asked)) step ≡ step
 none_leads gone rows_ step [] = refl
 none_leads gone rows_ step (q ∷ asked) =
-    by_test (is_under_way q && is_traversal q.what && has_passed_with gone q) (none_leads gone rows_ step asked)
+    by_test (is_under_way (closed q) && is_traversal q.what && has_passed_with gone (closed q)) (never_on q.is_started (is_traversal q.what) (has_passed_with gone (closed q))) (none_leads gone rows_ step asked)
   where
+    never_on : (a x y : Bool) → ((a && false) && x && y) ≡ false
+    never_on true x y = refl
+    never_on false x y = refl
+
     lead : Option Asked → ℕ
     lead o = option_map_or (λ (x : Asked). option_map_or (λ (goal : Step). used_step_at rows_ goal.0) x.goal step) o step
 
-    by_test : (b : Bool) → lead (passed_in gone (map goalless asked)) ≡ step → lead (cond b (Some (goalless q)) (passed_in gone (map goalless asked))) ≡ step
-    by_test true rest = refl
-    by_test false rest = rest
+    by_test : (b : Bool) → b ≡ false → lead (passed_in gone (map closed asked)) ≡ step → lead (cond b (Some (closed q)) (passed_in gone (map closed asked))) ≡ step
+    by_test true never rest = absurd cc
+    by_test false off rest = rest
 
 module _ (checking : ReqId → Bool) (step : ℕ) (end : Seen) where
   -- the log brought to the step, without questions
@@ -53,10 +56,10 @@ module _ (checking : ReqId → Bool) (step : ℕ) (end : Seen) where
 
   -- what becomes of a request there, in its check or not
   abbrev bare : Asked → Bool → Asked
-  bare q b = goalless (cond b (unbegun q) (without_asks q))
+  bare q b = closed (cond b (unbegun q) (without_asks q))
 
   abbrev as_there : Asked → Asked
-  as_there q = goalless (unasked_request checking q)
+  as_there q = closed (unasked_request checking q)
 
   pub aim_there : aim_of brought ≡ step
   aim_there = none_leads _ end.history.rows step (map (unasked_request checking) end.requests)
@@ -65,11 +68,11 @@ module _ (checking : ReqId → Bool) (step : ℕ) (end : Seen) where
 
   pub there : (req : ReqId) → request_of brought req ≡ option_map as_there (request_of end req)
   there req =
-      request_map goalless (map (unasked_request checking) end.requests) req
-      ∙ ap (option_map goalless) (request_map (unasked_request checking) end.requests req)
+      request_map closed (map (unasked_request checking) end.requests) req
+      ∙ ap (option_map closed) (request_map (unasked_request checking) end.requests req)
       ∙ by_found (request_of end req)
     where
-      by_found : (o : Option Asked) → option_map goalless (option_map (unasked_request checking) o) ≡ option_map as_there o
+      by_found : (o : Option Asked) → option_map closed (option_map (unasked_request checking) o) ≡ option_map as_there o
       by_found None = refl
       by_found (Some q) = refl
 
@@ -116,25 +119,27 @@ module _ (checking : ReqId → Bool) (step : ℕ) (end : Seen) where
 
   -- ---- loads
 
-  -- one that is the only one is so there
-  no_earlier_there : (req : ReqId) (nav : NavId) → has_no_earlier_load end req nav ≡ true → has_no_earlier_load brought req nav ≡ true
-  no_earlier_there req nav is = all end.requests is
+  -- none is ongoing there
+  pub no_earlier_there : (req : ReqId) (nav : NavId) → has_no_earlier_load brought req nav ≡ true
+  no_earlier_there req nav = all end.requests
     where
       test : Asked → Bool
       test q = not (is_ongoing_load q && nat_lt q.nr.0 req.0 && loads nav q.what)
 
-      one : (q : Asked) (b : Bool) → test q ≡ true → test (bare q b) ≡ true
-      one q true i = refl
-      one q false i = i
+      never_on : (a l x y : Bool) → not (((a && false) && l) && x && y) ≡ true
+      never_on true l x y = refl
+      never_on false l x y = refl
 
-      all : (asked : List Asked) → list_all test asked ≡ true → list_all test (map goalless (map (unasked_request checking) asked)) ≡ true
-      all [] i = refl
-      all (q ∷ asked) i =
-          let parts = and_parts (test q) (list_all test asked) i in
-          rw (one q (checking q.nr) parts.0) (all asked parts.1)
+      one : (q : Asked) (b : Bool) → test (bare q b) ≡ true
+      one q true = refl
+      one q false = never_on q.is_started (is_load q.what) (nat_lt q.nr.0 req.0) (loads nav q.what)
+
+      all : (asked : List Asked) → list_all test (map closed (map (unasked_request checking) asked)) ≡ true
+      all [] = refl
+      all (q ∷ asked) = rw (one q (checking q.nr)) (all asked)
 
   sole_load_there : (what : Request) (nr : ReqId) → is_sole_load what nr end ≡ true → is_sole_load what nr brought ≡ true
-  sole_load_there (requests.Load nav mode address) nr is = no_earlier_there nr nav is
+  sole_load_there (requests.Load nav mode address) nr is = no_earlier_there nr nav
   sole_load_there (requests.Go delta) nr is = refl
   sole_load_there (requests.Reload nav) nr is = refl
   sole_load_there (requests.Poke nav action) nr is = refl
@@ -150,7 +155,7 @@ module _ (checking passed : ReqId → Bool) (end : Seen) (numbered : AreNumbered
   s = brought checking (aim_of end) end
 
   abbrev bare_one : Asked → Bool → Asked
-  bare_one r b = goalless (cond b (unbegun r) (without_asks r))
+  bare_one r b = closed (cond b (unbegun r) (without_asks r))
 
   abbrev is_by_one : Seen → Asked → Bool
   is_by_one x r = by_later_load p x q r || by_traversal p x q r || by_last_step x q r || by_adder p x q r
@@ -213,7 +218,7 @@ module _ (checking passed : ReqId → Bool) (end : Seen) (numbered : AreNumbered
           by_passed true in_ =
               let never : false ≡ true = sym off ∙ ap checking (numbered req r at) ∙ among req in_ in absurd cc
 
-      by_found : (o : Option Asked) → request_of end req ≡ o → holds (λ (r : Asked). is_by_one s r) (option_map (λ (x : Asked). goalless (unasked_request checking x)) o) ≡ true → by_event p end q req ≡ true
+      by_found : (o : Option Asked) → request_of end req ≡ o → holds (λ (r : Asked). is_by_one s r) (option_map (λ (x : Asked). closed (unasked_request checking x)) o) ≡ true → by_event p end q req ≡ true
       by_found None at never = absurd cc
       by_found (Some r) at caused =
           ap (λ (o : Option Asked). holds (λ (x : Asked). is_by_one end x) o) at

@@ -2,11 +2,9 @@
 use Rattle.checking_facts.specs.Checks.{SameBut, just}
 use Rattle.log_model.specs.Causes.{by_event, by_mover}
 use Rattle.log_model.specs.Equal.{holds}
-use Rattle.log_model.specs.Once.{has_no_earlier_load, loads}
-use Rattle.log_model.specs.Places.{aim_of, is_load, is_ongoing_load, is_traversal, is_under_way}
+use Rattle.log_model.specs.Places.{aim_of}
 use Rattle.log_model.specs.Seen.{Asked, Seen, request_of}
 use Rattle.log_model.specs.declared.outcome.Cause.TheVariants as drops
-use Rattle.log_model.specs.declared.request.Request.{Request}
 use Rattle.log_model.specs.declared.row_kind.LogRow.{LogRow}
 use Rattle.log_model.specs.declared.row_kind.RowKind.TheVariants as rows
 use Rattle.log_model.specs.declared.row_kind.RowKind.{RowKind}
@@ -16,31 +14,20 @@ use Rattle.seen_laws.specs.Blocks.{Here, on_row, on_rows, point_at}
 use Rattle.seen_laws.specs.InEvent.{InEvent, cut, log_of, own_of, row_of}
 use Rattle.seen_laws.specs.Owing.{owes, owes_row}
 use Rattle.seen_laws.specs.Unasked.{unasked, unasked_request, unbegun, without_asks}
-use Rattle.std.proofs.Common.{Bool, List, None, Option, Some, [], ap, append-nil, cond, false, map, not, refl, subst, sym, true, ℕ, suc, ◌&&◌, ◌+◌, ◌++◌, ◌==◌, ◌||◌, ◌∙◌, ◌∷◌, ◌≡◌}
+use Rattle.std.proofs.Common.{Bool, List, None, Option, Some, [], ap, append-nil, cond, false, map, refl, subst, sym, true, ℕ, ◌+◌, ◌++◌, ◌==◌, ◌||◌, ◌∙◌, ◌∷◌, ◌≡◌}
 use Rattle.std.proofs.lemmas.Bool.{and_parts}
-use Rattle.std.specs.List.{list_all}
-use Rattle.std.specs.Prelude.{nat_lt, option_map, slice_get}
+use Rattle.std.specs.Prelude.{option_map}
 use Rattle.tab_cuts.proofs.Owed.{loose_cut}
-use Rattle.log_model.specs.declared.request.Request.TheVariants as requests
 use Rattle.checking_facts.proofs.Grown.{req_same}
-use Rattle.unasked.proofs.Lists.{found_in}
-use Rattle.tab_ids.specs.declared.NavId.{NavId}
 use Rattle.tab_ids.specs.declared.ReqId.{ReqId}
 use Rattle.tab_ids.specs.declared.Step.{Step}
 use Rattle.tab_midway.proofs.Bare.{due_is}
-use Rattle.tab_midway.proofs.Causes.{aimed_there, all_pass, brought, event_in, sole_there, there}
-use Rattle.tab_midway.specs.Owing.{brought_to, due_without, goalless}
+use Rattle.tab_midway.proofs.Causes.{aimed_there, all_pass, brought, event_in, no_earlier_there, sole_there, there}
+use Rattle.tab_midway.specs.Owing.{brought_to, due_without, closed}
 use Rattle.unasked.proofs.Readings.{request_read}
 use Rattle.unasked_dues.proofs.Cut.{debts_cut}
 use Rattle.unasked_dues.specs.Checking.{AllOthersPass, AreNumbered, IsAimed}
 use Rattle.unasked_dues.specs.Reading.{AreDebts, AreSole, BeginSole}
-
--- a traversal is no load
-no_load_what : (what : Request) → is_traversal what ≡ true → is_load what ≡ false
-no_load_what (requests.Go delta) is = refl
-no_load_what (requests.Poke nav action) is = refl
-no_load_what (requests.Load nav mode address) never = absurd cc
-no_load_what (requests.Reload nav) never = absurd cc
 
 -- ---- in the log, where it is paid without questions, brought to where the log is
 
@@ -121,129 +108,79 @@ module _ (e : InEvent) (req : ReqId) (passed : ReqId → Bool) (same : SameBut r
 
   -- ---- and paid by what lasts
 
-  module _ (numbered : AreNumbered (log_of e [])) (goes : (q : Asked) → request_of (log_of e []) req ≡ Some q → is_traversal q.what ≡ true) where
-    abbrev log : Seen
-    log = log_of e []
+  abbrev log : Seen
+  log = log_of e []
 
-    -- a load is the only one whether the traversal has begun or not
-    no_earlier_on : (r : ReqId) (nav : NavId) → has_no_earlier_load (unasked e.checking log) r nav ≡ true → has_no_earlier_load (unasked passed log) r nav ≡ true
-    no_earlier_on r nav is = all log.requests (λ k q at. its_what k q at) is
-      where
-        test : Asked → Bool
-        test q = not (is_ongoing_load q && nat_lt q.nr.0 r.0 && loads nav q.what)
+  -- what lasts of the log where it has passed lasts of the one where it hasn't, and without its beginning, wherever it is brought
+  lasts_without : (step : ℕ) (end : Seen) → Lasts (unasked passed log) end → Lasts (unasked e.checking log) (brought_to step (unasked (just req) end))
+  lasts_without step end lasts =
+      record {
+        asked = λ r q at. still r q at;
+        places = λ nav place at. (let l = lasts.places nav place at in record { then_ = l.then_; at = l.at; nav_is = l.nav_is; above = l.above; added = l.added; shown = l.shown });
+        sole = λ r nav is. no_earlier_there (just req) step end r nav;
+      }
+    where
+      still : (r : ReqId) (q : Asked) → request_of (unasked e.checking log) r ≡ Some q → IsStill (brought_to step (unasked (just req) end)) r q
+      still r q at = by_found (request_of log r) refl (sym (request_read e.checking log r) ∙ at)
+        where
+          by_check : (x : Asked) → request_of log r ≡ Some x → (b : Bool) → e.checking x.nr ≡ b → cond b (unbegun x) (without_asks x) ≡ q → IsStill (brought_to step (unasked (just req) end)) r q
+          by_check x found b is its =
+              record {
+                r = closed (unasked_request (just req) last.r);
+                at = there (just req) step end r ∙ ap (λ (o : Option Asked). option_map (λ (y : Asked). closed (unasked_request (just req) y)) o) last.at;
+                what = what_end (just req last.r.nr) ∙ last.what ∙ what_there (passed x.nr) ∙ sym (what_there b) ∙ ap (λ (y : Asked). y.what) its;
+                nr = nr_end (just req last.r.nr) ∙ last.nr ∙ nr_there (passed x.nr) ∙ sym (nr_there b) ∙ ap (λ (y : Asked). y.nr) its;
+                began = λ began. began_end b is (ap (λ (y : Asked). y.is_started) its ∙ began);
+              }
+            where
+              last : IsStill end r (unasked_request passed x)
+              last = lasts.asked r (unasked_request passed x) (request_read passed log r ∙ ap (λ (o : Option Asked). option_map (unasked_request passed) o) found)
 
-        -- who is in its check in the one alone is no load
-        AsBefore : Asked → Type 0
-        AsBefore q = test (unasked_request e.checking q) ≡ true → test (unasked_request passed q) ≡ true
+              what_end : (c : Bool) → (let y : Asked = closed (cond c (unbegun last.r) (without_asks last.r)) in y).what ≡ last.r.what
+              what_end true = refl
+              what_end false = refl
 
-        no_load : (q : Asked) → is_traversal q.what ≡ true → test (without_asks q) ≡ true
-        no_load q traverses = let none : is_load q.what ≡ false = no_load_what q.what traverses in by_test (is_under_way q) none
-          where
-            by_test : (u : Bool) → is_load q.what ≡ false → not ((u && is_load q.what) && nat_lt q.nr.0 r.0 && loads nav q.what) ≡ true
-            by_test true e_ = rw e_ refl
-            by_test false e_ = refl
+              what_there : (c : Bool) → (let y : Asked = cond c (unbegun x) (without_asks x) in y).what ≡ x.what
+              what_there true = refl
+              what_there false = refl
 
-        one : (q : Asked) → ((q.nr.0 == req.0) ≡ true → is_traversal q.what ≡ true) → AsBefore q
-        one q traverses is_ = by_number (q.nr.0 == req.0) refl
-          where
-            by_number : (b : Bool) → (q.nr.0 == req.0) ≡ b → test (unasked_request passed q) ≡ true
-            by_number false apart =
-                subst (λ (b : Bool). test (cond b (unbegun q) (without_asks q)) ≡ true) (sym (same q.nr apart)) is_
-            by_number true its =
-                subst (λ (b : Bool). test (cond b (unbegun q) (without_asks q)) ≡ true) (sym (ap passed (req_same q.nr req its) ∙ off)) (no_load q (traverses its))
+              nr_end : (c : Bool) → (let y : Asked = closed (cond c (unbegun last.r) (without_asks last.r)) in y).nr ≡ last.r.nr
+              nr_end true = refl
+              nr_end false = refl
 
-        its_what : (k : ℕ) (q : Asked) → slice_get log.requests k ≡ Some q → (q.nr.0 == req.0) ≡ true → is_traversal q.what ≡ true
-        its_what k q at its =
-            let found : request_of log (record { 0 = k + 1 }) ≡ Some q = found_in log.requests k q at in
-            let nr : q.nr ≡ record { 0 = k + 1 } = numbered (record { 0 = k + 1 }) q found in
-            goes q (ap (request_of log) (sym (sym nr ∙ req_same q.nr req its)) ∙ found)
+              nr_there : (c : Bool) → (let y : Asked = cond c (unbegun x) (without_asks x) in y).nr ≡ x.nr
+              nr_there true = refl
+              nr_there false = refl
 
-        all : (asked : List Asked) → ((k : ℕ) (q : Asked) → slice_get asked k ≡ Some q → (q.nr.0 == req.0) ≡ true → is_traversal q.what ≡ true) → list_all test (map (unasked_request e.checking) asked) ≡ true → list_all test (map (unasked_request passed) asked) ≡ true
-        all [] each i = refl
-        all (q ∷ asked) each i =
-            let parts = and_parts (test (unasked_request e.checking q)) (list_all test (map (unasked_request e.checking) asked)) i in
-            rw (one q (each 0 q refl) parts.0) (all asked (λ k x at. each (suc k) x at) parts.1)
+              -- one that isn't in its check began in both, and it isn't this one
+              began_end : (c : Bool) → e.checking x.nr ≡ c → (let y : Asked = cond c (unbegun x) (without_asks x) in y).is_started ≡ true → (closed (unasked_request (just req) last.r)).is_started ≡ true
+              began_end true on_ began = absurd cc
+              began_end false off_ began =
+                  subst (λ (c : Bool). (let y : Asked = closed (cond c (unbegun last.r) (without_asks last.r)) in y).is_started ≡ true) (sym apart) (last.began (subst (λ (c : Bool). (let y : Asked = cond c (unbegun x) (without_asks x) in y).is_started ≡ true) (sym out) began))
+                where
+                  apart_x : (x.nr.0 == req.0) ≡ false
+                  apart_x = by_number (x.nr.0 == req.0) refl
+                    where
+                      by_number : (c : Bool) → (x.nr.0 == req.0) ≡ c → c ≡ false
+                      by_number false is_ = refl
+                      by_number true is_ =
+                          let never : false ≡ true = sym off_ ∙ ap e.checking (req_same x.nr req is_) ∙ on in absurd cc
 
-    -- what lasts of the log where it has passed lasts of the one where it hasn't, and without its beginning, wherever it is brought
-    lasts_without : (step : ℕ) (end : Seen) → Lasts (unasked passed log) end → Lasts (unasked e.checking log) (brought_to step (unasked (just req) end))
-    lasts_without step end lasts =
-        record {
-          asked = λ r q at. still r q at;
-          places = λ nav place at. (let l = lasts.places nav place at in record { then_ = l.then_; at = l.at; nav_is = l.nav_is; above = l.above; added = l.added; shown = l.shown });
-          sole = λ r nav is. no_earlier_without end.requests r nav (lasts.sole r nav (no_earlier_on r nav is));
-        }
-      where
-        no_earlier_without : (asked : List Asked) (r : ReqId) (nav : NavId) → list_all (λ (q : Asked). not (is_ongoing_load q && nat_lt q.nr.0 r.0 && loads nav q.what)) asked ≡ true → list_all (λ (q : Asked). not (is_ongoing_load q && nat_lt q.nr.0 r.0 && loads nav q.what)) (map goalless (map (unasked_request (just req)) asked)) ≡ true
-        no_earlier_without [] r nav i = refl
-        no_earlier_without (q ∷ asked) r nav i =
-            let parts = and_parts (not (is_ongoing_load q && nat_lt q.nr.0 r.0 && loads nav q.what)) (list_all (λ (x : Asked). not (is_ongoing_load x && nat_lt x.nr.0 r.0 && loads nav x.what)) asked) i in
-            rw (one (just req q.nr) parts.0) (no_earlier_without asked r nav parts.1)
-          where
-            one : (b : Bool) → not (is_ongoing_load q && nat_lt q.nr.0 r.0 && loads nav q.what) ≡ true → (let x : Asked = goalless (cond b (unbegun q) (without_asks q)) in not (is_ongoing_load x && nat_lt x.nr.0 r.0 && loads nav x.what)) ≡ true
-            one true is = refl
-            one false is = is
+                  out : passed x.nr ≡ false
+                  out = same x.nr apart_x ∙ off_
 
-        still : (r : ReqId) (q : Asked) → request_of (unasked e.checking log) r ≡ Some q → IsStill (brought_to step (unasked (just req) end)) r q
-        still r q at = by_found (request_of log r) refl (sym (request_read e.checking log r) ∙ at)
-          where
-            by_check : (x : Asked) → request_of log r ≡ Some x → (b : Bool) → e.checking x.nr ≡ b → cond b (unbegun x) (without_asks x) ≡ q → IsStill (brought_to step (unasked (just req) end)) r q
-            by_check x found b is its =
-                record {
-                  r = goalless (unasked_request (just req) last.r);
-                  at = there (just req) step end r ∙ ap (λ (o : Option Asked). option_map (λ (y : Asked). goalless (unasked_request (just req) y)) o) last.at;
-                  what = what_end (just req last.r.nr) ∙ last.what ∙ what_there (passed x.nr) ∙ sym (what_there b) ∙ ap (λ (y : Asked). y.what) its;
-                  nr = nr_end (just req last.r.nr) ∙ last.nr ∙ nr_there (passed x.nr) ∙ sym (nr_there b) ∙ ap (λ (y : Asked). y.nr) its;
-                  began = λ began. began_end b is (ap (λ (y : Asked). y.is_started) its ∙ began);
-                }
-              where
-                last : IsStill end r (unasked_request passed x)
-                last = lasts.asked r (unasked_request passed x) (request_read passed log r ∙ ap (λ (o : Option Asked). option_map (unasked_request passed) o) found)
+                  apart : just req last.r.nr ≡ false
+                  apart = ap (λ (n : ReqId). n.0 == req.0) (last.nr ∙ nr_there (passed x.nr)) ∙ apart_x
 
-                what_end : (c : Bool) → (let y : Asked = goalless (cond c (unbegun last.r) (without_asks last.r)) in y).what ≡ last.r.what
-                what_end true = refl
-                what_end false = refl
+          by_found : (o : Option Asked) → request_of log r ≡ o → option_map (unasked_request e.checking) o ≡ Some q → IsStill (brought_to step (unasked (just req) end)) r q
+          by_found None found is = absurd cc
+          by_found (Some x) found is = by_check x found (e.checking x.nr) refl cc
 
-                what_there : (c : Bool) → (let y : Asked = cond c (unbegun x) (without_asks x) in y).what ≡ x.what
-                what_there true = refl
-                what_there false = refl
-
-                nr_end : (c : Bool) → (let y : Asked = goalless (cond c (unbegun last.r) (without_asks last.r)) in y).nr ≡ last.r.nr
-                nr_end true = refl
-                nr_end false = refl
-
-                nr_there : (c : Bool) → (let y : Asked = cond c (unbegun x) (without_asks x) in y).nr ≡ x.nr
-                nr_there true = refl
-                nr_there false = refl
-
-                -- one that isn't in its check began in both, and it isn't this one
-                began_end : (c : Bool) → e.checking x.nr ≡ c → (let y : Asked = cond c (unbegun x) (without_asks x) in y).is_started ≡ true → (goalless (unasked_request (just req) last.r)).is_started ≡ true
-                began_end true on_ began = absurd cc
-                began_end false off_ began =
-                    subst (λ (c : Bool). (let y : Asked = goalless (cond c (unbegun last.r) (without_asks last.r)) in y).is_started ≡ true) (sym apart) (last.began (subst (λ (c : Bool). (let y : Asked = cond c (unbegun x) (without_asks x) in y).is_started ≡ true) (sym out) began))
-                  where
-                    apart_x : (x.nr.0 == req.0) ≡ false
-                    apart_x = by_number (x.nr.0 == req.0) refl
-                      where
-                        by_number : (c : Bool) → (x.nr.0 == req.0) ≡ c → c ≡ false
-                        by_number false is_ = refl
-                        by_number true is_ =
-                            let never : false ≡ true = sym off_ ∙ ap e.checking (req_same x.nr req is_) ∙ on in absurd cc
-
-                    out : passed x.nr ≡ false
-                    out = same x.nr apart_x ∙ off_
-
-                    apart : just req last.r.nr ≡ false
-                    apart = ap (λ (n : ReqId). n.0 == req.0) (last.nr ∙ nr_there (passed x.nr)) ∙ apart_x
-
-            by_found : (o : Option Asked) → request_of log r ≡ o → option_map (unasked_request e.checking) o ≡ Some q → IsStill (brought_to step (unasked (just req) end)) r q
-            by_found None found is = absurd cc
-            by_found (Some x) found is = by_check x found (e.checking x.nr) refl cc
-
-    -- so what lasts pays what is due, if it paid what the rows before owed
-    pub loose_gone : IsLoose e [] → IsLoose (cut e [] passed (due_without e req)) []
-    unfolding due_without
-    loose_gone loose =
-        loose_cut e [] passed (due_without e req) (λ end lasts. (and_parts (e.due (without end)) true (loose (without end) (subst (λ (x : Seen). Lasts x (without end)) (sym (now_is e [])) (lasts_without (aim_of end) end lasts)))).0)
-      where
-        without : Seen → Seen
-        without end = brought_to (aim_of end) (unasked (just req) end)
+  -- so what lasts pays what is due, if it paid what the rows before owed
+  pub loose_gone : IsLoose e [] → IsLoose (cut e [] passed (due_without e req)) []
+  unfolding due_without
+  loose_gone loose =
+      loose_cut e [] passed (due_without e req) (λ end lasts. (and_parts (e.due (without end)) true (loose (without end) (subst (λ (x : Seen). Lasts x (without end)) (sym (now_is e [])) (lasts_without (aim_of end) end lasts)))).0)
+    where
+      without : Seen → Seen
+      without end = brought_to (aim_of end) (unasked (just req) end)

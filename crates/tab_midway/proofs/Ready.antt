@@ -302,13 +302,7 @@ module _ (e : InEvent) (loads : List ReqId) (t : Tables) (queue : Queue) (blame 
 
   pub loose_then : IsLoose (gone_on e req) []
   loose_then =
-      loose_wanting (cut e [] passed (due_without e req)) wants e.ran (loose_gone e req passed same off to_go.on numbered its_what cut_for.loose)
-    where
-      its_what : (x : Asked) → request_of log req ≡ Some x → is_traversal x.what ≡ true
-      its_what x found_ =
-          let both : Some q ≡ Some x = sym to_go.at ∙ found_ in
-          let one : q ≡ x = cc in
-          subst (λ (y : Asked). is_traversal y.what ≡ true) one to_go.goes
+      loose_wanting (cut e [] passed (due_without e req)) wants e.ran (loose_gone e req passed same off to_go.on cut_for.loose)
 
   passing : IsPassing ip [] u
   passing =
