@@ -12,5 +12,5 @@ pub use traversing::take_traversal;
 pub use turn::Turn;
 
 // What is passed on of the crates below, for those above.
-pub use tab_one_pass::{clear_out, note_entries, note_loads, pass, serve_and_tell};
+pub use tab_one_pass::{clear, clear_out, note_entries, note_loads, pass, serve_and_tell};
 pub use tab_turns::end_running;

@@ -370,6 +370,13 @@ module _ (run : Option ReqId) (loads : List ReqId) (hand : List Made) (s t : See
 
 -- ---- the pass
 
+-- where a traversal runs, whom it hasn't moved is where it is to be, if that was so before a pass or one of its parts
+pub put_here : (p : InPass) (was : List RowKind) (t : Tables) → IsPassing p was t → (out : List RowKind) (cause tells : Why) → HasPutOut p.event t.running cause tells was out → (req : ReqId) → t.running ≡ Some req → UnmovedAreHere (now_of p.event was) → AreUnmoved req (now_of p.event out)
+put_here p was t before out cause tells only req is here =
+    let there : IsThere (now_of p.event was) req = before.going.tab.asked.runs req is in
+    put_unmoved p.event req cause tells was out (subst (λ (r : Option ReqId). HasPutOut p.event r cause tells was out) is only)
+    (record { only = subst (λ (r : Option ReqId). OnlyRuns r (now_of p.event was)) is before.going.tab.asked.only; q = there.q; found = there.found; traverses = there.traverses; here = here })
+
 module _ (p : InPass) (was : List RowKind) (t : Tables) (before : IsPassing p was t) (out : List RowKind) (u : Tables) (after_ : IsPassing p out u) (left : LeavesPass (now_of p.event was) (now_of p.event out)) (passed : HasPassed p.event (now_of p.event out)) (served : AreServed (now_of p.event out)) (cause tells : Why) (only : HasPutOut p.event t.running cause tells was out) where
   abbrev a : Seen
   a = now_of p.event was
@@ -385,14 +392,8 @@ module _ (p : InPass) (was : List RowKind) (t : Tables) (before : IsPassing p wa
       aim_is a t.running before.going.tab.asked t.goal before.work.goal ∙ ap (λ (r : Option ReqId). aim_in a.history r t.goal) none
 
   pub passed_calm : LeavesCalm t.running a z
-  passed_calm = record { yet = yet t.running refl; around = λ at. around at t.running refl; rooted = left.calms.rooted; unmoved = λ req is here. (unmoved req is here).here }
+  passed_calm = record { yet = yet t.running refl; around = λ at. around at t.running refl; rooted = left.calms.rooted; unmoved = λ req is here. (put_here p was t before out cause tells only req is here).here }
     where
-      unmoved : (req : ReqId) → t.running ≡ Some req → UnmovedAreHere a → AreUnmoved req z
-      unmoved req is here =
-          let there : IsThere a req = before.going.tab.asked.runs req is in
-          put_unmoved p.event req cause tells was out (subst (λ (r : Option ReqId). HasPutOut p.event r cause tells was out) is only)
-          (record { only = subst (λ (r : Option ReqId). OnlyRuns r a) is before.going.tab.asked.only; q = there.q; found = there.found; traverses = there.traverses; here = here })
-
       yet : (run : Option ReqId) → t.running ≡ run → CalmUnless IsCalmYet run a → CalmUnless IsCalm run z
       yet (Some run) is calm = tt
       yet None is calm =

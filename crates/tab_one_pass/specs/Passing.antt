@@ -120,6 +120,13 @@ pub record HasClearedOut (e : InEvent) (blame : List (StateId × ReqId)) (was ou
   pub sweeps : HasOnlySwept (now_of e was) blame was swept
   pub destroys : HasOnlyDestroyed (now_of e swept) swept out
 
+-- where a traversal runs loads gave way to it, and then that
+pub record HasClearedAll (e : InEvent) (run : Option ReqId) (was out : List RowKind) : Type 0 where
+  pub given : List RowKind
+  pub gives : HasGivenWay (now_of e was) run was given
+  pub blame : List (StateId × ReqId)
+  pub clears : HasClearedOut e blame given out
+
 -- all of it, in this order; then come the orders of the walk, which discard nothing where a step was in its check as the event began or was cut, and last those that tell length and index
 pub record HasPutOut (e : InEvent) (run : Option ReqId) (cause tells : Why) (was out : List RowKind) : Type 0 where
   pub given : List RowKind
@@ -162,6 +169,10 @@ pub record LeavesCalm (run : Option ReqId) (s t : Seen) : Type 0 where
   pub around : (at : NavId) → CalmUnless (λ (x : Seen). IsCalmAround x at) run s → CalmUnless IsCalm run t
   pub rooted : AreRooted s → AreRooted t
   pub unmoved : (req : ReqId) → run ≡ Some req → UnmovedAreHere s → UnmovedAreHere t
+
+-- where a traversal runs, whom it hasn't moved is where it is to be, if that was so
+abbrev pub KeepsUnmoved : Option ReqId → Seen → Seen → Type 0
+KeepsUnmoved run s t = (req : ReqId) → run ≡ Some req → UnmovedAreHere s → UnmovedAreHere t
 
 -- ---- from the walk on
 

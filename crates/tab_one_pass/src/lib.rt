@@ -5,4 +5,4 @@ mod noting;
 mod passing;
 
 pub use noting::{note_entries, note_loads};
-pub use passing::{clear_out, pass, serve_and_tell};
+pub use passing::{clear, clear_out, pass, serve_and_tell};

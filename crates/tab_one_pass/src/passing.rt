@@ -6,7 +6,7 @@ ghost use Rattle.log_model.specs.ActsAtOnce.{ends_told};
 ghost use Rattle.seen_laws.specs.InEvent.{now_of};
 ghost use Rattle.tab_doors.specs.Working.{KeepsStore, MayDiscardIn};
 ghost use Rattle.tab_drops.specs.Dropping.{StandOrBare};
-ghost use Rattle.tab_one_pass.specs.Passing.{AreLeftStrays, EndsRun, HasClearedOut, HasGivenWay, HasPassed, HasPutOut, HasServedAll, IsOpen, KeepsLeftStrays, LeavesCalm, LeavesPass, MayPass, MayServeAll, MayStand, SendsForStrays, WereLoaded, WereStray};
+ghost use Rattle.tab_one_pass.specs.Passing.{AreLeftStrays, EndsRun, HasClearedAll, HasClearedOut, HasGivenWay, HasPassed, HasPutOut, HasServedAll, IsOpen, KeepsLeftStrays, KeepsUnmoved, LeavesCalm, LeavesPass, MayPass, MayServeAll, MayStand, SendsForStrays, WereLoaded, WereStray};
 ghost use Rattle.tab_serves.specs.Serving.{FreesVisited, InPass, IsPassing};
 ghost use Rattle.tab_passes.specs.Passing.{IsPassingIn};
 ghost use Rattle.tab_sweeps.specs.Sweeping.{AreBlamed, NoneStray};
@@ -89,6 +89,37 @@ pub fn clear_out(
     Ok(())
 }
 
+/// The first part of a pass, up to its walk, where no step under way was in its check as the event began or was cut: ongoing loads give way to the traversal that runs, then stray documents are discarded and loads of navigables without an entry dropped, as `clear_out` has it. HTML Standard, "apply the history step", "destroy a document" and "destroy a child navigable".
+pub fn clear(
+    alloc: Global,
+    tables: &mut Tables,
+    blame: &mut IndexMap<StateId, ReqId>,
+    out: &mut Out,
+    cause: Why,
+) -> Result<(), OutOfMemory>
+    ghost p: { InPass }
+    requires passing { IsPassing p out.old tables.old }
+    requires open_ { IsOpen p.event tables.old.running cause (now_of p.event out.old) }
+    requires loads { MayStand tables.old.running (now_of p.event out.old) }
+    requires blamed { AreBlamed (now_of p.event out.old) blame.old.entries }
+    requires free { MayDiscardIn false p.event }
+    ensures passing { OnOk result (IsPassing p out.new tables.new) }
+    ensures open_ { OnOk result (IsOpen p.event tables.new.running cause (now_of p.event out.new)) }
+    ensures loads { OnOk result (LoadsStand (now_of p.event out.new)) }
+    ensures strays { OnOk result (AreLeftStrays (now_of p.event out.new) blame.new.entries) }
+    ensures sent { OnOk result (SendsForStrays (now_of p.event out.old) (now_of p.event out.new) out.old out.new) }
+    ensures rows { OnOk result (AreAwakeWithRows (now_of p.event out.new)) }
+    ensures frees { OnOk result (FreesVisited p.event (now_of p.event out.old) → FreesVisited p.event (now_of p.event out.new)) }
+    ensures left { OnOk result (LeavesPass (now_of p.event out.old) (now_of p.event out.new)) }
+    ensures unmoved { OnOk result (KeepsUnmoved tables.old.running (now_of p.event out.old) (now_of p.event out.new)) }
+    ensures only { OnOk result (HasClearedAll p.event tables.old.running out.old out.new) }
+    ensures kept { OnOk result (KeepsStore tables.old tables.new) }
+{
+    give_way(alloc, tables, blame, out, cause)?;
+    clear_out(alloc, tables, blame, out, cause)?;
+    Ok(())
+}
+
 /// The rest of a pass, from its walk on, once stray documents were discarded and loads of navigables without an entry dropped: each navigable that needs it is shown its target, or has its document made; and who is awake is told the length and index that are due. `cause` is what orders are for that show or make documents where no traversal runs, and `tells` what those are for that tell. HTML Standard, "apply the history step".
 pub fn serve_and_tell(
     alloc: Global,
@@ -109,6 +140,7 @@ pub fn serve_and_tell(
     ensures strays { OnOk result (KeepsLeftStrays (now_of p.event out.old) (now_of p.event out.new)) }
     ensures stray { OnOk result (WereStray (now_of p.event out.old) (now_of p.event out.new)) }
     ensures left { OnOk result (LeavesPass (now_of p.event out.old) (now_of p.event out.new)) }
+    ensures calm { OnOk result (LeavesCalm tables.old.running (now_of p.event out.old) (now_of p.event out.new)) }
     ensures only { OnOk result (HasServedAll p.event tables.old.running cause tells out.old out.new) }
     ensures kept { OnOk result (KeepsStore tables.old tables.new) }
 {

@@ -1,3 +1,3 @@
 -- What is passed on of the crates below, for those above.
-pub use Rattle.tab_takes.specs.PassedOn.{AreBlamed, AreCounted, AreHeldUp, AreLeftStrays, AreSteps, AreStepsOf, AreUnheld, Asks, AwaitTurns, CameTo, DiscardsUnheld, Drop, EndsRun, FreesVisited, HasClearedOut, HasEnded, HasGivenWay, HasGrown, HasOnly, HasOnlyDestroyed, HasOnlyDropped, HasOnlyDroppedBy, HasOnlySwept, HasPassed, HasPutOut, HasQueue, HasRested, HasSent, HasServedAll, HasStood, HaveJoined, InPass, IsAtRest, IsBlamed, IsByLoad, IsCalmFor, IsGoing, IsLeftStray, IsLoadApplied, IsLoadOf, IsNoneDue, IsOfTab, IsOfTurn, IsOfWalk, IsOpen, IsPassedOver, IsPassing, IsPassingIn, IsReadyLoadOf, IsServeFor, IsStray, IsSweepOf, IsTab, IsToAsk, IsUp, IsUpdateFor, KeepsLeftStrays, KeepsMade, KeepsStore, KeepsUp, LeavesCalm, LeavesInNeed, LeavesPass, LeavesQueue, LoadsLive, MayCause, MayFollow, MayHaveEnded, MayPass, MayServe, MayServeAll, MayStand, NoneStray, ParentsShown, Refused, Rests, SendsForStrays, StandOrMove, TakersServe, Turn, WaitsToAsk, Went, WereStray, aim_in, at_hand, count_of, delta_in, has_ended, is_through, is_traverse, length_index, row_of_drop, show_why}
+pub use Rattle.tab_takes.specs.PassedOn.{AreBlamed, AreCounted, AreHeldUp, AreLeftStrays, AreSteps, AreStepsOf, AreUnheld, Asks, AwaitTurns, CameTo, DiscardsUnheld, Drop, EndsRun, FreesVisited, HasClearedAll, HasClearedOut, HasEnded, HasGivenWay, HasGrown, HasOnly, HasOnlyDestroyed, HasOnlyDropped, HasOnlyDroppedBy, HasOnlySwept, HasPassed, HasPutOut, HasQueue, HasRested, HasSent, HasServedAll, HasStood, HaveJoined, InPass, IsAtRest, IsBlamed, IsByLoad, IsCalmFor, IsGoing, IsLeftStray, IsLoadApplied, IsLoadOf, IsNoneDue, IsOfTab, IsOfTurn, IsOfWalk, IsOpen, IsPassedOver, IsPassing, IsPassingIn, IsReadyLoadOf, IsServeFor, IsStray, IsSweepOf, IsTab, IsToAsk, IsUp, IsUpdateFor, KeepsLeftStrays, KeepsUnmoved, KeepsMade, KeepsStore, KeepsUp, LeavesCalm, LeavesInNeed, LeavesPass, LeavesQueue, LoadsLive, MayCause, MayFollow, MayHaveEnded, MayPass, MayServe, MayServeAll, MayStand, NoneStray, ParentsShown, Refused, Rests, SendsForStrays, StandOrMove, TakersServe, Turn, WaitsToAsk, Went, WereStray, aim_in, at_hand, count_of, delta_in, has_ended, is_through, is_traverse, length_index, row_of_drop, show_why}
 pub use Rattle.tab_takes.specs.Taking.{Ends, EndsAlone, HasNode, HasTaken, IsByItsOwn, IsForTaking, IsOfFragment, IsOfPoke, IsToTake, is_new_entry, is_reloading, judged_in, nav_found}

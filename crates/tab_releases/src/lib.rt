@@ -7,5 +7,5 @@ pub use releasing::release;
 
 // What is passed on of the crates below, for those above.
 pub use tab_takes::{
-    Turn, begin_next, clear_out, end_running, judged, note_loads, pass, serve_and_tell, take,
+    Turn, begin_next, clear, clear_out, end_running, judged, note_loads, pass, serve_and_tell, take,
 };

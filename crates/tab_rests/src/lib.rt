@@ -6,5 +6,5 @@ pub fn nothing() {}
 
 // What is passed on of the crates below, for those above.
 pub use tab_begins::{
-    Turn, begin_next, clear_out, end_running, note_entries, note_loads, pass, serve_and_tell,
+    Turn, begin_next, clear, clear_out, end_running, note_entries, note_loads, pass, serve_and_tell,
 };

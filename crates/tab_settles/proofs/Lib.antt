@@ -9,6 +9,7 @@ pub mod MovedRows
 pub mod MovedPasses
 pub mod MovedTurns
 pub mod Passed
+pub mod Halves
 pub mod Parts
 pub mod Stood
 pub mod Ended

@@ -1,9 +1,6 @@
 -- While a traversal in its check holds the queue the tab is brought to rest by one pass in two parts: what is so between them, and behind them.
-use Rattle.log_model.specs.ActsAtOnce.{ends_told}
-use Rattle.log_model.specs.History.{has_row, has_state}
-use Rattle.log_model.specs.Orders.{ongoing_load}
 use Rattle.log_model.specs.Places.{aim_of}
-use Rattle.log_model.specs.Seen.{Asked, Document, Seen, document_of}
+use Rattle.log_model.specs.Seen.{Seen}
 use Rattle.log_model.specs.declared.job.Task.{Task}
 use Rattle.log_model.specs.declared.job.Why.{Why}
 use Rattle.log_model.specs.declared.outcome.Cause.TheVariants as causes
@@ -16,67 +13,30 @@ use Rattle.row_facts.specs.Owed.Owed.{IsLoose}
 use Rattle.seen_facts.proofs.Hang.Members.{has_map}
 use Rattle.seen_facts.specs.Hang.Members.{Has}
 use Rattle.seen_facts.specs.LoadEnds.Standing.{LoadsStand}
-use Rattle.seen_facts.specs.Rest.Between.{IsOfLoad}
-use Rattle.seen_facts.specs.Walk.Serving.{AreServed}
 use Rattle.seen_laws.specs.InEvent.{InEvent, now_of}
 use Rattle.seen_laws.specs.Unasked.{is_question}
-use Rattle.std.proofs.Common.{Bool, List, None, Option, Some, [], ap, append-nil, append_assoc, false, inl, inr, map, not, refl, subst, sym, true, ◌++◌, ◌∙◌, ◌∷◌, ◌≡◌, ◌⊎◌}
+use Rattle.std.proofs.Common.{Bool, List, None, Option, [], ap, append-nil, append_assoc, inl, inr, map, not, refl, subst, sym, true, ◌++◌, ◌∙◌, ◌∷◌, ◌≡◌}
 use Rattle.tab_doors.specs.declared.tables.Tables.{Tables}
-use Rattle.tab_facts.proofs.Calm.Calms.{calm_but, calm_rows}
-use Rattle.tab_facts.specs.Calm.Calm.{IsCalm, IsCalmYet}
+use Rattle.tab_facts.proofs.Calm.Calms.{calm_rows}
+use Rattle.tab_facts.specs.Calm.Calm.{IsCalmYet}
 use Rattle.tab_facts.specs.FrameWhole.Tab.{AreAwakeWithRows}
-use Rattle.tab_facts.specs.TabEvents.Between.{AreSwept, orders_go}
-use Rattle.tab_ids.specs.declared.NavId.{NavId}
 use Rattle.tab_ids.specs.declared.ReqId.{ReqId}
 use Rattle.tab_ids.specs.declared.StateId.{StateId}
-use Rattle.tab_releases.proofs.PassedOn.{StandOrBare, aim_is, left_blamed, loaded_never, of_load, only_none, own_document, served_quiet, stand_bare}
-use Rattle.tab_releases.specs.PassedOn.{AreBlamed, AreLeftStrays, DiscardsUnheld, HasClearedOut, HasOnly, HasPassed, HasPutOut, HasServedAll, IsOpen, IsServeFor, IsUpdateFor, KeepsLeftStrays, KeepsStore, LeavesPass, MayServeAll, MayStand, SendsForStrays, WereStray, aim_in, row_of_drop}
-use Rattle.tab_releases.specs.Releasing.{InPass, IsPassing}
+use Rattle.tab_releases.proofs.PassedOn.{StandOrBare, cleared_put as put_cleared, aim_is, left_blamed, own_document, stand_bare}
+use Rattle.tab_releases.specs.PassedOn.{AreBlamed, AreLeftStrays, HasClearedOut, HasGivenWay, HasPutOut, IsOpen, KeepsStore, LeavesPass, MayStand, SendsForStrays, aim_in, row_of_drop}
+use Rattle.tab_releases.specs.Releasing.{InPass}
 use Rattle.tab_settles.proofs.Lates.{applied_after}
 use Rattle.tab_settles.proofs.LoadsOff.{off_none, off_passed}
 use Rattle.tab_settles.proofs.PutOuts.{order_or_drop_goes, put_only}
 use Rattle.tab_settles.proofs.Passed as passed
-use Rattle.tab_settles.proofs.Sweeps.{go_on}
-use Rattle.tab_settles.specs.Held.{IsClearedIn}
-use Rattle.tab_settles.specs.Settling.{FreesVisited, HasPut, HasSettled, IsCalmAfter, IsCalmBefore, IsOrderOrDrop, IsPassingIn, IsReadyIn, LeavesOff}
+use Rattle.tab_settles.specs.Held.{HasCleared, IsClearedIn}
+use Rattle.tab_settles.specs.Settling.{FreesVisited, HasPut, IsCalmBefore, IsPassingIn, IsReadyIn, LeavesOff}
 
--- ---- each part is a pass of which the other part puts out nothing
+-- ---- the first part is a pass of which the other one puts out nothing
 
 pub cleared_put : (e : InEvent) (run : Option ReqId) (cause tells : Why) (blame : List (StateId × ReqId)) (was out : List RowKind) → run ≡ None → HasClearedOut e blame was out → HasPutOut e run cause tells was out
 cleared_put e run cause tells blame was out idle clears =
-    subst (λ (r : Option ReqId). HasPutOut e r cause tells was out) (sym idle) (record {
-      given = was;
-      gives = refl;
-      blame = blame;
-      cleared = out;
-      clears = clears;
-      served = out;
-      serves = only_none (IsServeFor None cause) out;
-      quiet = λ held. only_none _ out;
-      told = only_none (IsUpdateFor tells) out;
-    })
-
-pub served_put : (e : InEvent) (run : Option ReqId) (cause tells : Why) (was out : List RowKind) → run ≡ None → HasServedAll e run cause tells was out → HasPutOut e run cause tells was out
-served_put e run cause tells was out idle serves =
-    subst (λ (r : Option ReqId). HasServedAll e r cause tells was out → HasPutOut e r cause tells was out) (sym idle) none_runs serves
-  where
-    none_runs : HasServedAll e None cause tells was out → HasPutOut e None cause tells was out
-    none_runs all =
-        record {
-          given = was;
-          gives = refl;
-          blame = [];
-          cleared = was;
-          clears = record {
-            swept = was;
-            sweeps = record { more = []; is = sym (append-nil was); each = λ row has. absurd has; ascending = tt };
-            destroys = record { drops = []; is = sym (append-nil was); each = λ d has. absurd has; order = tt };
-          };
-          served = all.served;
-          serves = all.serves;
-          quiet = all.quiet;
-          told = all.told;
-        }
+    put_cleared e run cause tells was out (record { given = was; gives = subst (λ (r : Option ReqId). HasGivenWay (now_of e was) r was was) (sym idle) refl; blame = blame; clears = clears })
 
 -- ---- what the first part owes
 
@@ -188,64 +148,7 @@ module _ {before : Bool} (p : InPass) (out : List RowKind) (t : Tables) (queue :
     pub cleared_off : LeavesOff p.event out new
     cleared_off = off_passed p.event out out new (off_none p.event out) (put_only p.event t.running cause cause out new only) left.history left.aim
 
--- ---- behind them
-
-module _ (p : InPass) (out : List RowKind) (t : Tables) (queue : Queue) (blame : List (StateId × ReqId)) (cause : Why) (at : IsClearedIn false p out t queue blame cause) where
-  -- what the second part asks
-  pub rest_asks : IsPassing p out t × MayServeAll p.event t.running t.kept.keep cause (now_of p.event out)
-  rest_asks =
-      (at.ready.passing, record { open_ = at.ready.open_; rows_ = at.rows_; loads = at.stand; header = at.ready.header; frees = at.ready.frees })
-
-  module _ (new : List RowKind) (u : Tables) (tells : Why) (passing : IsPassing p new u) (left : LeavesPass (now_of p.event out) (now_of p.event new)) (serves : HasServedAll p.event t.running cause tells out new) (kept : KeepsStore t u) where
-    rest_put : HasPutOut p.event t.running cause tells out new
-    rest_put = served_put p.event t.running cause tells out new at.idle serves
-
-    put : HasOnly IsOrderOrDrop out new
-    put = put_only p.event t.running cause tells out new rest_put
-
-    swept_rest : WereStray (now_of p.event out) (now_of p.event new) → AreSwept (now_of p.event out) ⊎ (orders_go (now_of p.event out) ≡ true) → AreSwept (now_of p.event new) ⊎ (orders_go (now_of p.event new) ≡ true)
-    swept_rest before (inr go) = inr (go_on p.event out new put go)
-    swept_rest before (inl swept) = inl still
-      where
-        still : AreSwept (now_of p.event new)
-        still doc d found ready undiscarded = by_row (has_state d.state (now_of p.event new).history.rows) refl
-          where
-            was_swept : (e : Document) → document_of (now_of p.event out) doc ≡ Some e → e.is_ready ≡ true → e.is_discarded ≡ false → has_state d.state (now_of p.event out).history.rows ≡ false → e.state ≡ d.state → ongoing_load (now_of p.event out) d.state ≡ None → ⊥
-            was_swept e at_ ready_ undiscarded_ bare its unloaded = by_case (swept doc e at_ ready_ undiscarded_)
-              where
-                by_case : (has_state e.state (now_of p.event out).history.rows ≡ true) ⊎ IsOfLoad (now_of p.event out) e → ⊥
-                by_case (inl has) =
-                    let never : true ≡ false = sym has ∙ ap (λ (x : StateId). has_state x (now_of p.event out).history.rows) its ∙ bare in cc
-                by_case (inr loaded) =
-                    loaded_never (now_of p.event out) d.state unloaded loaded.req loaded.q e.state loaded.found loaded.ongoing loaded.own (ap (λ (x : StateId). x.0) its)
-
-            by_load : has_state d.state (now_of p.event new).history.rows ≡ false → (o : Option Asked) → ongoing_load (now_of p.event new) d.state ≡ o → (has_state d.state (now_of p.event new).history.rows ≡ true) ⊎ IsOfLoad (now_of p.event new) d
-            by_load bare (Some q) is = inr (of_load (now_of p.event new) d q is)
-            by_load bare None is =
-                let was = before doc d.state (record { document = d; found = found; its_state = refl; ready = ready; undiscarded = undiscarded; bare = bare; unloaded = is }) in
-                absurd (was_swept was.document was.found was.ready was.undiscarded was.bare was.its_state was.unloaded)
-
-            by_row : (b : Bool) → has_state d.state (now_of p.event new).history.rows ≡ b → (has_state d.state (now_of p.event new).history.rows ≡ true) ⊎ IsOfLoad (now_of p.event new) d
-            by_row true is = inl is
-            by_row false bare = by_load bare (ongoing_load (now_of p.event new) d.state) refl
-
-    pub rested_held : AreServed (now_of p.event new) → ends_told (now_of p.event new) ≡ true → HasPassed p.event (now_of p.event new) → KeepsLeftStrays (now_of p.event out) (now_of p.event new) → WereStray (now_of p.event out) (now_of p.event new) → HasSettled p new u queue blame cause
-    rested_held served told passed_ strays before =
-        passed.settled_in p out t queue blame cause at.ready new u blame tells passing left rest_put kept passing served told (strays blame at.strays) passed_ (subst (λ (r : Option ReqId). IsCalmAfter r (now_of p.event new)) (sym (kept.running ∙ at.idle)) calm) (swept_rest before at.swept)
-      where
-        yet : IsCalmYet (now_of p.event out)
-        yet = calm_but (now_of p.event out) at.calm (λ (nav : NavId). has_row nav (now_of p.event out).history.rows ≡ false)
-
-        calm : IsCalm (now_of p.event new)
-        calm =
-            calm_rows (now_of p.event new) passing.going.tab.sound passing.going.tab.hangs passed_.rows_ (left.calms.yet (idle_aim p out t at.idle at.ready.passing) yet)
-
-    -- what the second part put out
-    pub rested_more : HasPut p.event out new
-    rested_more = passed.pass_ready_put p out t queue blame cause at.ready new tells rest_put left
-
-    pub rested_off : LeavesOff p.event out new
-    rested_off = off_passed p.event out out new (off_none p.event out) put left.history left.aim
-
-    pub rested_quiet : DiscardsUnheld p.event out new
-    rested_quiet = served_quiet p.event t.running cause tells out new serves
+-- so it is whatever runs
+pub whatever_runs : {sweeps : Bool} (p : InPass) (out : List RowKind) (t : Tables) (queue : Queue) (blame : List (StateId × ReqId)) (cause : Why) → IsClearedIn sweeps p out t queue blame cause → HasCleared sweeps p out t queue blame cause
+whatever_runs p out t queue blame cause at =
+    record { ready = at.ready; stand = at.stand; rows_ = at.rows_; strays = at.strays; swept = at.swept }

@@ -38,6 +38,12 @@ use Rattle.tab_settles.specs.Settling.{FreesVisited, HasPut, HasSettled, IsPassi
 use Rattle.seen_facts.specs.Walk.Serving.{AreServed}
 
 -- what a pass asks
+-- how calm the tab is once a pass went by
+pub calm_after : (run : Option ReqId) (cause : Why) (s n : Seen) → LeavesCalm run s n → IsCalmBefore run cause s → IsCalmAfter run n
+calm_after None cause s n leaves_ (inl yet) = leaves_.yet yet
+calm_after None cause s n leaves_ (inr around) = leaves_.around around.0 around.1.0
+calm_after (Some run) cause s n leaves_ before_ = (leaves_.unmoved run refl before_.0, leaves_.rooted before_.1)
+
 pub pass_asks : (p : InPass) (out : List RowKind) (t : Tables) (queue : Queue) (blame : List (StateId × ReqId)) (cause : Why) → IsReady p out t queue blame cause → IsPassing p out t × (MayPass p.event t.running t.kept.keep cause (now_of p.event out) × (AreBlamed (now_of p.event out) blame × FreesVisited p.event (now_of p.event out)))
 pass_asks p out t queue blame cause ready =
     (ready.passing, (record { open_ = ready.open_; loads = ready.loads; header = ready.header }, (ready.blamed, ready.frees)))
@@ -186,12 +192,7 @@ module _ {before : Bool} (p : InPass) (out : List RowKind) (t : Tables) (queue :
 
   pub settled : (new : List RowKind) (u : Tables) (noted : List (StateId × ReqId)) (tells : Why) → IsPassing p new u → AreServed (now_of p.event new) → ends_told (now_of p.event new) ≡ true → AreLeftStrays (now_of p.event new) noted → HasPassed p.event (now_of p.event new) → LeavesPass (now_of p.event out) (now_of p.event new) → HasPutOut p.event t.running cause tells out new → KeepsStore t u → LeavesCalm t.running (now_of p.event out) (now_of p.event new) → SendsForStrays (now_of p.event out) (now_of p.event new) out new → HasSettled p new u queue noted cause
   settled new u noted tells passing served told strays passed left only kept calm sent =
-      settled_in new u noted tells passing left only kept passing served told strays passed (subst (λ (r : Option ReqId). IsCalmAfter r (now_of p.event new)) (sym kept.running) (by_run t.running calm ready.calm)) (swept_then new u noted tells passing left only kept sent)
-    where
-      by_run : (r : Option ReqId) → LeavesCalm r (now_of p.event out) (now_of p.event new) → IsCalmBefore r cause (now_of p.event out) → IsCalmAfter r (now_of p.event new)
-      by_run None leaves_ (inl yet) = leaves_.yet yet
-      by_run None leaves_ (inr around) = leaves_.around around.0 around.1.0
-      by_run (Some run) leaves_ before_ = (leaves_.unmoved run refl before_.0, leaves_.rooted before_.1)
+      settled_in new u noted tells passing left only kept passing served told strays passed (subst (λ (r : Option ReqId). IsCalmAfter r (now_of p.event new)) (sym kept.running) (calm_after t.running cause (now_of p.event out) (now_of p.event new) calm ready.calm)) (swept_then new u noted tells passing left only kept sent)
 
 -- ---- what was put out
 

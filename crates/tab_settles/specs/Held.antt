@@ -1,4 +1,4 @@
--- A tab is brought to rest while a traversal in its unload check holds the queue: what goes on between the two parts of its pass.
+-- What goes on between the two parts of a pass, and while a traversal in its unload check holds the queue.
 -- HTML Standard, "apply the history step" and "checking if unloading is canceled"; that all this goes by passes is this project's own.
 use Rattle.log_model.specs.declared.job.Why.{Why}
 use Rattle.log_model.specs.declared.row_kind.RowKind.{RowKind}
@@ -32,9 +32,26 @@ pub record IsClearedIn (sweeps : Bool) (p : InPass) (out : List RowKind) (t : Ta
   pub swept : AreSwept (now_of p.event out) ⊎ (orders_go (now_of p.event out) ≡ true)
   pub calm : IsCalm (now_of p.event out)
 
+-- whatever runs, a pass went by up to its walk: one may follow, ongoing loads stand, who is awake has an entry, for each stray document that is left a request is noted, and none is or an order is on its way; so it is where documents are swept, too
+pub record HasCleared (sweeps : Bool) (p : InPass) (out : List RowKind) (t : Tables) (queue : Queue) (blame : List (StateId × ReqId)) (cause : Why) : Type 0 where
+  pub ready : IsReadyIn sweeps p out t queue blame cause
+  pub stand : LoadsStand (now_of p.event out)
+  pub rows_ : AreAwakeWithRows (now_of p.event out)
+  pub strays : AreLeftStrays (now_of p.event out) blame
+  pub swept : AreSwept (now_of p.event out) ⊎ (orders_go (now_of p.event out) ≡ true)
+
 -- so it is, with some requests noted for stray documents
 abbrev pub IsClearedNoted : Bool → InPass → List RowKind → Tables → Queue → Why → Type 0
 IsClearedNoted sweeps p out t queue cause = (blame : List (StateId × ReqId)) × IsClearedIn sweeps p out t queue blame cause
+
+-- so it is whatever runs
+abbrev pub HasClearedNoted : InPass → List RowKind → Tables → Queue → Why → Type 0
+HasClearedNoted p out t queue cause = (blame : List (StateId × ReqId)) × HasCleared false p out t queue blame cause
+
+-- whichever are noted, a pass has gone by with these noted, if it had gone by up to its walk
+abbrev pub RestsNoted : InPass → List RowKind → Tables → List RowKind → Tables → Queue → Why → Type 0
+RestsNoted p was t out u queue cause =
+    (blame : List (StateId × ReqId)) → HasCleared false p was t queue blame cause → HasSettled p out u queue blame cause
 
 -- whichever are noted, a pass has gone by with these noted, if that was so before
 abbrev pub SettlesNoted : InPass → List RowKind → Tables → List RowKind → Tables → Queue → Why → Type 0

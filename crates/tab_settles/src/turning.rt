@@ -87,7 +87,7 @@ fn begin(
 }
 
 /// The traversal that runs ends, or, where none runs, the next step has its turn, where that is due; not that of a traversal that is to ask somebody before it begins. Answers whether one had a turn; else nothing is put out.
-pub(crate) fn take_turn(
+pub fn take_turn(
     alloc: Global,
     tables: &mut Tables,
     queue: &mut MoveQueue,

@@ -9,4 +9,6 @@ pub use judging::judged;
 pub use taking::take;
 
 // What is passed on of the crates below, for those above.
-pub use tab_rests::{Turn, begin_next, clear_out, end_running, note_loads, pass, serve_and_tell};
+pub use tab_rests::{
+    Turn, begin_next, clear, clear_out, end_running, note_loads, pass, serve_and_tell,
+};
