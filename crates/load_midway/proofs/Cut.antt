@@ -1,6 +1,5 @@
 -- Where an event was cut behind the first part of a pass, or where the tab has come to rest, a load may pass its check.
 use Rattle.load_midway.specs.Midway.{IsCutFor}
-use Rattle.load_passed.specs.Passing.{HasCleared}
 use Rattle.log_model.specs.declared.job.Why.{Why}
 use Rattle.move_queue.specs.Queue.{Queue}
 use Rattle.row_facts.specs.Owed.Owed.{IsLoose}
@@ -10,6 +9,7 @@ use Rattle.tab_doors.specs.declared.tables.Tables.{Tables}
 use Rattle.tab_ids.specs.declared.ReqId.{ReqId}
 use Rattle.tab_ids.specs.declared.StateId.{StateId}
 use Rattle.tab_prompts.specs.Asking.{BeginsAsked}
+use Rattle.tab_settles.specs.Held.{HasCleared}
 use Rattle.tab_settles.specs.PassedOn.{InPass}
 use Rattle.tab_settles.specs.Settling.{HasSettled, MakesServe, OrdersAreSound}
 

@@ -12,7 +12,7 @@ use Rattle.load_passed.proofs.Asking.{asking_leaves}
 use Rattle.load_passed.proofs.Begun as begun
 use Rattle.load_passed.proofs.Fresh.{fresh_state}
 use Rattle.load_passed.proofs.Queues.{left_then}
-use Rattle.load_passed.specs.Passing.{GoesOnBeside, HasCleared, InLoadPass, IsToMake, IsUnbegun, WasCleared, WasSettled, load_tables, passed_load}
+use Rattle.load_passed.specs.Passing.{GoesOnBeside, InLoadPass, IsToMake, IsUnbegun, WasCleared, WasSettled, load_tables, passed_load}
 use Rattle.log_model.proofs.Refl.{nat_eq_refl}
 use Rattle.log_model.specs.Causes.{denial_at_acceptance}
 use Rattle.log_model.specs.Checks.{due_prompt}
@@ -58,6 +58,7 @@ use Rattle.tab_passed.proofs.Who.{without_off, without_same}
 use Rattle.tab_passed.specs.Passing.{without}
 use Rattle.tab_prompts.specs.Asking.{BeginsAsked, WasOpen, are_unheard}
 use Rattle.tab_prompts.specs.Prompts.{is_open, is_waiting}
+use Rattle.tab_settles.specs.Held.{HasCleared}
 use Rattle.tab_settles.specs.PassedOn.{HasPassed, HasQueue}
 use Rattle.tab_settles.specs.Settling.{HasSettled, IsQueueing, IsWaiting, MayRelease}
 use Rattle.tab_stands.proofs.PassedOn.{mades_same, queue_over}

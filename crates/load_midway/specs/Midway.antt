@@ -1,6 +1,6 @@
 -- A load passes its unload check in the midst of an event, where it was cut: what is known there, and what is so once it has gone on.
 -- HTML Standard, "navigate" and "checking if unloading is canceled". Who is in its check, the table of checks, where an event is cut, and the log without questions are this project's own.
-use Rattle.load_passed.specs.Passing.{HasCleared, InLoadPass, IsToMake, WasCleared, WasSettled, load_tables, passed_load}
+use Rattle.load_passed.specs.Passing.{InLoadPass, IsToMake, WasCleared, WasSettled, load_tables, passed_load}
 use Rattle.load_table.specs.Loads.{ongoing_load}
 use Rattle.log_model.specs.Checks.{due_prompt}
 use Rattle.log_model.specs.Equal.{has_req}
@@ -22,6 +22,7 @@ use Rattle.tab_ids.specs.declared.ReqId.{ReqId}
 use Rattle.tab_ids.specs.declared.StateId.{StateId}
 use Rattle.tab_midway.specs.Midway.{gone_on}
 use Rattle.tab_prompts.specs.Asking.{BeginsAsked}
+use Rattle.tab_settles.specs.Held.{HasCleared}
 use Rattle.tab_settles.specs.Offs.{LateKnown}
 use Rattle.tab_settles.specs.PassedOn.{InPass, IsPassing, LoadsLive, LoadsMadeOwn}
 use Rattle.tab_settles.specs.Settling.{HasSettled, IsQueueing, MakesServe, MovedAreShown, OrdersAreSound}

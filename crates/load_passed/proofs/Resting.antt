@@ -7,7 +7,7 @@ use Rattle.load_passed.proofs.Opening as opening
 use Rattle.load_passed.proofs.Sent as sent
 use Rattle.load_passed.proofs.Sent.{order_of}
 use Rattle.load_passed.proofs.Settled as settled
-use Rattle.load_passed.specs.Passing.{HasCleared, InLoadPass, IsPastLoad, IsToMake, WasCleared, WasReady, WasSettled, WasTaken}
+use Rattle.load_passed.specs.Passing.{InLoadPass, IsPastLoad, IsToMake, WasCleared, WasReady, WasSettled, WasTaken}
 use Rattle.log_model.specs.ActsAtOnce.{ends_told}
 use Rattle.log_model.specs.Seen.{Seen}
 use Rattle.log_model.specs.declared.job.Job.{Job}
@@ -36,6 +36,7 @@ use Rattle.tab_one_pass.specs.Passing.{AreLeftStrays, HasPassed, IsOpen}
 use Rattle.tab_passes.specs.Causes.{MayCause}
 use Rattle.tab_settles.specs.Settling.{FreesVisited}
 use Rattle.tab_settles.proofs.Sweeps.{swept_or}
+use Rattle.tab_settles.specs.Held.{HasCleared}
 use Rattle.tab_settles.specs.PassedOn.{AreBlamed, IsTaking, LoadsLive, MayStand}
 use Rattle.tab_settles.specs.Settling.{HasSettled, IsCalmAfter, IsCalmBefore, IsOrderOrDrop, IsReady, MakesServe, OrdersAreSound}
 use Rattle.tab_stands.proofs.PassedOn.{put_makes, put_sound}

@@ -2,12 +2,12 @@
 -- HTML Standard, "navigate", "checking if unloading is canceled" and "attempt to populate the history entry's document". Who is in its check, the table of checks, and the log without questions are this project's own.
 use Rattle.log_model.specs.ActsAtOnce.{ends_told}
 use Rattle.log_model.specs.declared.job.Why.{Why}
+use Rattle.tab_settles.specs.Held.{HasCleared}
 use Rattle.tab_settles.specs.Offs.{LateKnown}
 use Rattle.tab_facts.specs.TabGoing.Going.{IsGoing}
 use Rattle.load_doors.specs.Tied.{AreTied}
 use Rattle.seen_facts.specs.Walk.Serving.{AreServed}
 use Rattle.tab_facts.specs.FrameWhole.Tab.{AreAwakeWithRows}
-use Rattle.tab_facts.specs.TabEvents.Between.{AreSwept, orders_go}
 use Rattle.row_facts.specs.RestRows.Moving.{AllRest}
 use Rattle.leave_facts.proofs.Carried.{AreLeftDuly}
 use Rattle.load_table.specs.Loads.{begun, cancelled, ongoing_load}
@@ -28,7 +28,7 @@ use Rattle.row_facts.specs.FrameRows.Lawful.{held_at_first}
 use Rattle.row_facts.specs.Owed.Owed.{IsLoose}
 use Rattle.seen_facts.specs.LoadEnds.Standing.{LoadsStand, is_reached}
 use Rattle.seen_laws.specs.InEvent.{InEvent, log_of, now_of}
-use Rattle.std.specs.Prelude.{Option, Bool, List, None, Some, [], false, length, true, ℕ, ◌∷◌, ◌≡◌, ◌≤◌, ◌⊎◌}
+use Rattle.std.specs.Prelude.{Option, Bool, List, None, Some, [], false, length, true, ℕ, ◌∷◌, ◌≡◌, ◌≤◌}
 use Rattle.tab_doors.specs.Working.{IsAtWork}
 use Rattle.tab_doors.specs.declared.tables.Tables.{Tables}
 use Rattle.tab_ids.specs.declared.NavId.{NavId}
@@ -37,7 +37,7 @@ use Rattle.tab_ids.specs.declared.StateId.{StateId}
 use Rattle.tab_one_pass.specs.Passing.{HasPassed}
 use Rattle.tab_passed.specs.Passing.{PassesCheck}
 use Rattle.tab_settles.specs.PassedOn.{AreBlamed, AreLeftStrays, HasQueue, InPass, IsOpen, IsTaking, LoadsLive, LoadsMadeOwn, MayCause, MayStand}
-use Rattle.tab_settles.specs.Settling.{FreesVisited, HasPut, HasSettled, IsCalmAfter, IsCalmBefore, IsQueueing, IsReady, IsReadyIn, MakesServe, MovedAreShown, OrdersAreSound}
+use Rattle.tab_settles.specs.Settling.{FreesVisited, HasPut, HasSettled, IsCalmAfter, IsCalmBefore, IsQueueing, IsReady, MakesServe, MovedAreShown, OrdersAreSound}
 use Rattle.unasked_tab.proofs.Begun.{with_begun}
 use Rattle.unasked_tab.proofs.Reordered.{AreAsOften}
 use Rattle.unasked_tab.specs.Passing.{IsFreshState}
@@ -132,16 +132,6 @@ pub record IsToMake (l : InLoadPass) (u : Tables) : Type 0 where
   pub duly : AreLeftDuly (log_of l.event [])
   pub queueing : IsQueueing (record { event = l.event; loads = l.loads; hand = [] }) [] u l.queue
   pub header : u.kept.keep ≡ l.event.header.keep
-
--- ---- between the parts of a pass
-
--- whatever runs, a pass went by up to its walk: one may follow, ongoing loads stand, who is awake has an entry, for each stray document that is left a request is noted, and none is or an order is on its way; so it is where documents are swept, too
-pub record HasCleared (sweeps : Bool) (p : InPass) (out : List RowKind) (t : Tables) (queue : Queue) (blame : List (StateId × ReqId)) (cause : Why) : Type 0 where
-  pub ready : IsReadyIn sweeps p out t queue blame cause
-  pub stand : LoadsStand (now_of p.event out)
-  pub rows_ : AreAwakeWithRows (now_of p.event out)
-  pub strays : AreLeftStrays (now_of p.event out) blame
-  pub swept : AreSwept (now_of p.event out) ⊎ (orders_go (now_of p.event out) ≡ true)
 
 -- ---- how the tab was before it passed
 

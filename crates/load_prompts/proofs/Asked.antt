@@ -1,12 +1,16 @@
 -- The event is cut behind the prompts: the tab is at rest there as it was, and what is known of checks is so anew.
 use Rattle.asking_facts.specs.Known.{AskingKnown}
+use Rattle.check_facts.specs.Prompting.{prompt_of, todo_of}
 use Rattle.checking_facts.specs.Prompts.{told_all, told_by}
-use Rattle.load_prompts.specs.Prompting.{AreToAskAbout, HasAskedAbout, prompted_cut, prompts_due}
+use Rattle.load_prompts.proofs.Goes.{apart_prompts, goes_passed, goes_undue}
+use Rattle.load_prompts.specs.Prompting.{AreToAskAbout, HasAskedAbout, MayGoOn, prompted_cut, prompts_due}
 use Rattle.log_model.specs.After.{after}
-use Rattle.log_model.specs.Places.{is_traversal}
+use Rattle.log_model.specs.Checks.{due_prompt}
+use Rattle.log_model.specs.Places.{has_passed, is_traversal}
 use Rattle.log_model.specs.Seen.{Asked, Seen, request_of}
 use Rattle.log_model.specs.declared.job.Why.{Why}
 use Rattle.log_model.specs.declared.request.Request.{Request}
+use Rattle.log_model.specs.declared.row_kind.LogRow.{LogRow}
 use Rattle.log_model.specs.declared.row_kind.RowKind.TheVariants as rows
 use Rattle.log_model.specs.declared.row_kind.RowKind.{RowKind}
 use Rattle.move_queue.specs.Queue.{Queue}
@@ -15,14 +19,18 @@ use Rattle.seen_facts.proofs.Each.Courses.{was_asked}
 use Rattle.seen_facts.proofs.Request.Readers.{SameReads, on_read, reads_then}
 use Rattle.seen_facts.specs.Hang.Members.{Has}
 use Rattle.seen_laws.proofs.Cuts.{log_cut}
-use Rattle.seen_laws.specs.InEvent.{EndAsWanted, InEvent, log_of, row_of}
-use Rattle.std.proofs.Common.{Bool, List, None, Some, [], ap, false, filter, inl, inr, refl, subst, sym, true, ◌++◌, ◌∙◌, ◌∷◌, ◌≡◌}
-use Rattle.std.specs.Prelude.{if◌then◌else◌}
+use Rattle.seen_facts.specs.LoadEnds.Standing.{LoadsStand}
+use Rattle.seen_laws.specs.InEvent.{EndAsWanted, InEvent, log_of, now_of, row_of}
+use Rattle.std.proofs.Common.{Bool, List, None, Option, Some, [], ap, false, filter, inl, inr, refl, subst, sym, true, ◌++◌, ◌∙◌, ◌∷◌, ◌≡◌, ◌⊎◌}
+use Rattle.std.specs.Prelude.{if◌then◌else◌, option_and_then}
 use Rattle.tab_doors.specs.declared.tables.Tables.{Tables}
+use Rattle.tab_facts.specs.FrameWhole.Tab.{AreAwakeWithRows}
+use Rattle.tab_facts.specs.TabEvents.Between.{AreSwept, orders_go}
 use Rattle.tab_ids.specs.declared.ReqId.{ReqId}
 use Rattle.tab_ids.specs.declared.StateId.{StateId}
 use Rattle.tab_prompts.proofs.Again.{begins_again}
 use Rattle.tab_prompts.proofs.Known.{known_prompts}
+use Rattle.tab_prompts.proofs.Ready.{over, ready_prompted}
 use Rattle.tab_prompts.proofs.Rested.{settled_prompted}
 use Rattle.tab_prompts.proofs.Settled.{IsNotedFor, cut_calm, cut_stands, ends_then, has_waiting, left, waiting_has}
 use Rattle.tab_prompts.proofs.Since.{finished_since}
@@ -31,10 +39,13 @@ use Rattle.tab_prompts.proofs.Works.{loose_prompted, prompts_are, prompts_keep, 
 use Rattle.tab_prompts.specs.Asking.{AreAllWaiting, AreApart, BeginsAsked}
 use Rattle.tab_prompts.specs.Prompts.{is_settled_in, is_waiting, prompts_for, waiting_among}
 use Rattle.tab_prompts.specs.Sparing.{new_notes, spares}
-use Rattle.tab_settles.specs.PassedOn.{InPass, IsPassing}
+use Rattle.tab_settles.specs.Held.{HasCleared}
+use Rattle.tab_settles.specs.PassedOn.{AreLeftStrays, InPass, IsPassing}
 use Rattle.tab_settles.specs.Settling.{HasSettled}
 use Rattle.tab_stands.specs.GoingOn.{GoesOn}
-use Rattle.unload_check.specs.Checks.{OpenCheck}
+use Rattle.unload_check.specs.Checks.{OpenCheck, outcome_at}
+use Rattle.unload_check.specs.declared.check.Check.TheVariants as checks
+use Rattle.unload_check.specs.declared.check.Check.{Check}
 
 never : {A : Type 0} → true ≡ false → A
 never is = absurd cc
@@ -120,6 +131,38 @@ module _ (p : InPass) (out : List RowKind) (t : Tables) (passing : IsPassing p o
   settled_then queue blame cause at =
       settled_prompted p out t queue blame cause at told prompts (prompts_are told waited) finished (spares (new_notes (told_by e.ran t.checks out).checks told)) (left None e out t passing.work begins waited apart waits about.under) (cut_stands None e out t passing.work begins waited apart waits about.under) (cut_calm None e out t passing.work begins waited apart waits about.under all noted)
 
+  -- so it is up to the walk of a pass
+  cleared_then : (queue : Queue) (blame : List (StateId × ReqId)) (cause : Why) → HasCleared false p out t queue blame cause → HasCleared false (record p { event = prompted_cut p.event out t.checks reqs }) [] (record t { checks = told_all p.event.ran t.checks out }) queue blame cause
+  cleared_then queue blame cause at =
+      record {
+        ready = ready_prompted p out t queue blame cause at.ready told prompts (prompts_are told waited) finished spared [] (left None e out t passing.work begins waited apart waits about.under) (cut_stands None e out t passing.work begins waited apart waits about.under) (cut_calm None e out t passing.work begins waited apart waits about.under all noted);
+        stand = on LoadsStand at.stand;
+        rows_ = on AreAwakeWithRows at.rows_;
+        strays = on (λ (x : Seen). AreLeftStrays x blame) at.strays;
+        swept = on (λ (x : Seen). AreSwept x ⊎ (orders_go x ≡ true)) at.swept;
+      }
+    where
+      spared : List LogRow → Bool
+      spared = spares (new_notes (told_by e.ran t.checks out).checks told)
+
+      on : (P : Seen → Type 0) → P (now_of e out) → P (now_of then_ [])
+      on P is = over p out t queue at.ready.passing at.ready.queueing told prompts (prompts_are told waited) finished spared [] P is
+
+  -- one that waited, and whose check goes on, has passed it
+  goers_then : (req : ReqId) (q : Asked) → Has reqs req → is_waiting t.checks req ≡ true → request_of (log_of (prompted_cut p.event out t.checks reqs) []) req ≡ Some q → outcome_at req told ≡ Some checks.Go → MayGoOn (log_of (prompted_cut p.event out t.checks reqs) []) told req q
+  goers_then req q has is_waits found goes =
+      subst (λ (x : Seen). MayGoOn x told req q) (sym there) (record {
+        passed = prompts_keep (λ s. has_passed s q ≡ true) e (λ s r doc is. is) prompts out (prompts_are told waited) (goes_passed e out t passing.work begins req is_waits q at goes);
+        undue = prompts_keep (λ s. due_prompt s q ≡ None) e (λ s r doc is. is) prompts out (prompts_are told waited) (goes_undue e out t passing.work begins req is_waits q at goes);
+        unnoted = unnoted;
+      })
+    where
+      unnoted : todo_of told req ≡ None
+      unnoted = ap (λ (o : Option Check). option_and_then prompt_of o) goes
+
+      at : request_of (log_of e out) req ≡ Some q
+      at = sym (apart_prompts e told req unnoted waited out) ∙ ap (λ (x : Seen). request_of x req) (sym there) ∙ found
+
   known_then : AskingKnown (log_of p.event out) → AskingKnown (log_of (prompted_cut p.event out t.checks reqs) [])
   known_then known =
       subst AskingKnown (sym there) (known_prompts e told waited out (told_asked None e out t passing.work begins).notes known)
@@ -136,6 +179,8 @@ module _ (p : InPass) (out : List RowKind) (t : Tables) (passing : IsPassing p o
         tables = tables;
         goes = goes_then;
         settled = λ queue blame cause at. subst (λ (x : Tables). HasSettled (record p { event = then_ }) [] x queue blame cause) (sym tables) (settled_then queue blame cause at);
+        cleared = λ queue blame cause at. subst (λ (x : Tables). HasCleared false (record p { event = then_ }) [] x queue blame cause) (sym tables) (cleared_then queue blame cause at);
+        goers = λ req q has is_waits found goes. subst (λ (x : Tables). MayGoOn (log_of then_ []) x.checks req q) (sym tables) (goers_then req q has is_waits found (ap (λ (x : Tables). outcome_at req x.checks) (sym tables) ∙ goes));
         begins = subst (λ (x : Tables). BeginsAsked then_ x.checks) (sym tables) begins_then;
         known = known_then;
         seen = same_prompted e out prompts (prompts_are told waited) finished (spares (new_notes (told_by e.ran t.checks out).checks told)) [];
