@@ -7,22 +7,20 @@ use Rattle.check_facts.specs.Prompting.{had_settled, has_settled, is_asked, prom
 use Rattle.checking_facts.proofs.Grown.{req_same}
 use Rattle.checking_facts.proofs.Tellings.{told_due}
 use Rattle.checking_facts.specs.Prompts.{told_all, told_by}
-use Rattle.log_model.specs.After.{after}
 use Rattle.log_model.specs.Checks.{due_prompt, lower_doc}
 use Rattle.log_model.specs.Equal.{holds}
 use Rattle.log_model.specs.Outcomes.{is_drop}
 use Rattle.log_model.specs.Places.{all_asked, has_passed, is_gone, is_settled_asking, is_under_way, may_leave}
 use Rattle.log_model.specs.Seen.{Asked, Asking, Seen, request_of}
-use Rattle.log_model.specs.declared.handler.Verdict.{Verdict}
 use Rattle.log_model.specs.declared.row_kind.RowKind.TheVariants as rows
 use Rattle.log_model.specs.declared.row_kind.RowKind.{RowKind}
 use Rattle.seen_laws.proofs.InEvents.{log_more}
-use Rattle.seen_laws.specs.InEvent.{InEvent, log_of, row_of}
+use Rattle.seen_laws.specs.InEvent.{InEvent, log_of}
 use Rattle.std.proofs.Common.{Bool, List, None, Option, Some, [], ap, append-nil, append_assoc, false, filter, inl, inr, map, not, refl, subst, sym, true, ◌&&◌, ◌++◌, ◌==◌, ◌||◌, ◌∙◌, ◌∷◌, ◌≡◌, ◌⊎◌}
 use Rattle.std.proofs.lemmas.Bool.{and_parts}
 use Rattle.std.specs.List.{list_all}
 use Rattle.std.specs.Option.{option_map_or}
-use Rattle.std.specs.Prelude.{fold, if◌then◌else◌, is_none, is_some, option_and_then, option_map}
+use Rattle.std.specs.Prelude.{fold, if◌then◌else◌, is_some, option_and_then, option_map}
 use Rattle.tab_doors.specs.Working.{IsAtWorkIn}
 use Rattle.tab_doors.specs.declared.tables.Tables.{Tables}
 use Rattle.tab_ids.specs.declared.DocId.{DocId}
@@ -33,7 +31,7 @@ use Rattle.tab_prompts.proofs.Told.{WasOpenThen, first_open, held_now, said_now,
 use Rattle.tab_prompts.proofs.Waits.{waiting_open}
 use Rattle.tab_prompts.specs.Asking.{BeginsAsked, WasOpen, are_unheard}
 use Rattle.tab_prompts.specs.Prompts.{is_open, is_waiting, prompts_for}
-use Rattle.unload_check.specs.Checks.{OpenCheck, check_of, decided, is_settled, outcome_at, outcome_of, prompting_doc}
+use Rattle.unload_check.specs.Checks.{OpenCheck, check_of, is_settled, outcome_at, outcome_of}
 use Rattle.unload_check.specs.declared.check.Check.TheVariants as checks
 use Rattle.unload_check.specs.declared.check.Check.{Check}
 

@@ -14,7 +14,7 @@ use Rattle.seen_laws.specs.Blocks.{Here, on_row, on_rows, point_at}
 use Rattle.seen_laws.specs.InEvent.{InEvent, cut, log_of, own_of, row_of}
 use Rattle.seen_laws.specs.Owing.{owes, owes_row}
 use Rattle.seen_laws.specs.Unasked.{unasked, unasked_request, unbegun, without_asks}
-use Rattle.std.proofs.Common.{Bool, List, None, Option, Some, [], ap, append-nil, cond, false, map, refl, subst, sym, true, ℕ, ◌+◌, ◌++◌, ◌==◌, ◌||◌, ◌∙◌, ◌∷◌, ◌≡◌}
+use Rattle.std.proofs.Common.{Bool, List, None, Option, Some, [], ap, append-nil, cond, false, map, refl, subst, sym, true, ℕ, ◌++◌, ◌==◌, ◌||◌, ◌∙◌, ◌∷◌, ◌≡◌}
 use Rattle.std.proofs.lemmas.Bool.{and_parts}
 use Rattle.std.specs.Prelude.{option_map}
 use Rattle.tab_cuts.proofs.Owed.{loose_cut}
