@@ -1,2 +1,4 @@
+pub mod Closed
+pub mod Debts
 pub mod Cut
 pub mod Ready

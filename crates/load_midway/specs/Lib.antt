@@ -1,1 +1,2 @@
 pub mod Midway
+pub mod Owing
