@@ -2,7 +2,6 @@
 use Rattle.load_midway.specs.Midway.{IsCutFor}
 use Rattle.log_model.specs.declared.job.Why.{Why}
 use Rattle.move_queue.specs.Queue.{Queue}
-use Rattle.row_facts.specs.Owed.Owed.{IsLoose}
 use Rattle.seen_laws.specs.InEvent.{now_of}
 use Rattle.std.proofs.Common.{List, [], false}
 use Rattle.tab_doors.specs.declared.tables.Tables.{Tables}
@@ -13,7 +12,7 @@ use Rattle.tab_settles.specs.Held.{HasCleared}
 use Rattle.tab_settles.specs.PassedOn.{InPass}
 use Rattle.tab_settles.specs.Settling.{HasSettled, MakesServe, OrdersAreSound}
 
-module _ (p : InPass) (t : Tables) (queue : Queue) (blame : List (StateId × ReqId)) (cause : Why) (begins : BeginsAsked p.event t.checks) (loose : IsLoose p.event []) (makes : MakesServe (now_of p.event [])) (sound : OrdersAreSound (now_of p.event [])) where
+module _ (p : InPass) (t : Tables) (queue : Queue) (blame : List (StateId × ReqId)) (cause : Why) (begins : BeginsAsked p.event t.checks) (makes : MakesServe (now_of p.event [])) (sound : OrdersAreSound (now_of p.event [])) where
   pub cut_cleared : HasCleared false p [] t queue blame cause → IsCutFor p t queue
   cut_cleared at =
       record {
@@ -26,7 +25,6 @@ module _ (p : InPass) (t : Tables) (queue : Queue) (blame : List (StateId × Req
         theirs = at.ready.theirs;
         moved = at.ready.moved;
         late = at.ready.late;
-        loose = loose;
         makes = makes;
         sound = sound;
       }
@@ -43,7 +41,6 @@ module _ (p : InPass) (t : Tables) (queue : Queue) (blame : List (StateId × Req
         theirs = at.theirs;
         moved = at.moved;
         late = at.late;
-        loose = loose;
         makes = makes;
         sound = sound;
       }

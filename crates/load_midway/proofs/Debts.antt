@@ -8,7 +8,6 @@ use Rattle.log_model.specs.Causes.{by_event, by_mover}
 use Rattle.log_model.specs.Equal.{holds}
 use Rattle.log_model.specs.Places.{aim_of, has_passed, is_load, is_traversal, is_under_way}
 use Rattle.log_model.specs.Seen.{Asked, Seen, request_of}
-use Rattle.log_model.specs.declared.change.Change.{Change}
 use Rattle.log_model.specs.declared.outcome.Cause.TheVariants as drops
 use Rattle.log_model.specs.declared.row_kind.LogRow.{LogRow}
 use Rattle.log_model.specs.declared.row_kind.RowKind.TheVariants as rows
@@ -19,7 +18,7 @@ use Rattle.seen_laws.specs.Blocks.{Here, on_row, on_rows, point_at}
 use Rattle.seen_laws.specs.InEvent.{InEvent, cut, log_of, own_of, row_of}
 use Rattle.seen_laws.specs.Owing.{owes, owes_row}
 use Rattle.seen_laws.specs.Unasked.{unasked, unasked_request, unbegun, without_asks}
-use Rattle.std.proofs.Common.{Bool, List, None, Option, Some, [], ap, append-nil, cond, false, map, refl, subst, sym, true, ℕ, ◌&&◌, ◌++◌, ◌==◌, ◌||◌, ◌∙◌, ◌∷◌, ◌≡◌}
+use Rattle.std.proofs.Common.{Bool, List, None, Option, Some, [], ap, append-nil, cond, false, map, refl, subst, sym, true, ◌&&◌, ◌++◌, ◌==◌, ◌||◌, ◌∙◌, ◌∷◌, ◌≡◌}
 use Rattle.std.proofs.lemmas.Bool.{and_parts}
 use Rattle.std.specs.Prelude.{if◌then◌else◌, option_map}
 use Rattle.tab_cuts.proofs.Owed.{loose_cut, owed_cut}

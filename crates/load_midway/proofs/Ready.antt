@@ -7,7 +7,9 @@ use Rattle.checking_facts.proofs.Grown.{req_same}
 use Rattle.checking_facts.specs.Checks.{SameBut}
 use Rattle.leave_facts.proofs.Carried.{AreLeftDuly}
 use Rattle.load_doors.specs.Tied.{AreTied}
-use Rattle.load_midway.specs.Midway.{HasGoneOn, IsCutFor, IsToGoOn, load_on}
+use Rattle.load_midway.proofs.Debts.{debts_beside, loose_beside, owed_beside}
+use Rattle.load_midway.specs.Midway.{HasGoneOn, IsCutFor, IsToGoOn, gone_on, load_on}
+use Rattle.load_midway.specs.Owing.{due_beside}
 use Rattle.load_passed.proofs.Asking.{asking_leaves}
 use Rattle.load_passed.proofs.Begun as begun
 use Rattle.load_passed.proofs.Fresh.{fresh_state}
@@ -27,7 +29,7 @@ use Rattle.log_model.specs.declared.row_kind.LogRow.{LogRow}
 use Rattle.log_model.specs.declared.row_kind.RowKind.{RowKind}
 use Rattle.move_queue.specs.Queue.{Queue}
 use Rattle.row_facts.specs.FrameRows.Lawful.{has_traversed, held_at_first}
-use Rattle.row_facts.specs.Owed.Owed.{IsLoose}
+use Rattle.row_facts.specs.Owed.Owed.{IsLoose, IsOwed}
 use Rattle.seen_facts.proofs.Coord.Held.{held_alike}
 use Rattle.seen_facts.proofs.Each.Courses.{was_asked}
 use Rattle.seen_facts.specs.Coord.Leading.{held_back}
@@ -40,7 +42,7 @@ use Rattle.std.proofs.Common.{Bool, List, None, Option, Some, [], ap, append-nil
 use Rattle.std.proofs.lemmas.Bool.{and_parts}
 use Rattle.std.specs.Option.{option_map_or}
 use Rattle.std.specs.Prelude.{is_none, nat_lt, option_map}
-use Rattle.tab_cuts.proofs.Owed.{loose_wanting}
+use Rattle.tab_cuts.proofs.Owed.{loose_wanting, owed_wanting}
 use Rattle.tab_cuts.proofs.Works.{calm_beside, work_wanting}
 use Rattle.tab_cuts.specs.Cut.{TiesCut}
 use Rattle.tab_doors.specs.AskingLoads.{TiesAsking}
@@ -51,9 +53,6 @@ use Rattle.tab_facts.specs.Frame.Lasting.{Wish, wish}
 use Rattle.tab_ids.specs.declared.NavId.{NavId}
 use Rattle.tab_ids.specs.declared.ReqId.{ReqId}
 use Rattle.tab_ids.specs.declared.StateId.{StateId}
-use Rattle.tab_midway.proofs.Debts.{debts_gone, loose_gone}
-use Rattle.tab_midway.specs.Midway.{gone_on}
-use Rattle.tab_midway.specs.Owing.{due_without}
 use Rattle.tab_passed.proofs.Who.{without_off, without_same}
 use Rattle.tab_passed.specs.Passing.{without}
 use Rattle.tab_prompts.specs.Asking.{BeginsAsked, WasOpen, are_unheard}
@@ -195,7 +194,7 @@ module _ (e : InEvent) (hand : List ReqId) (t : Tables) (queue : Queue) (blame :
       passed_unasked e.checking passed log req q to_go.at numbered off same ∙ ap (λ (x : Seen). with_begun x req q) (sym (now_is e []))
 
   now : now_of at [] ≡ n
-  now = now_is at [] ∙ ap (unasked passed) (log_cut e [] passed (due_without e req)) ∙ was
+  now = now_is at [] ∙ ap (unasked passed) (log_cut e [] passed (due_beside e req)) ∙ was
 
   -- what holds of it holds of what the event has come to then
   over : (P : Seen → Type 0) → P n → P (now_of at [])
@@ -203,7 +202,7 @@ module _ (e : InEvent) (hand : List ReqId) (t : Tables) (queue : Queue) (blame :
 
   -- and the log is as it was
   log_same : (P : Seen → Type 0) → P log → P (log_of at [])
-  log_same P holds = subst P (sym (log_cut e [] passed (due_without e req))) holds
+  log_same P holds = subst P (sym (log_cut e [] passed (due_beside e req))) holds
 
   abbrev u : Tables
   u = load_tables t (passed_load lp) (ended req t.checks)
@@ -212,12 +211,12 @@ module _ (e : InEvent) (hand : List ReqId) (t : Tables) (queue : Queue) (blame :
 
   -- what the rows before the cut wanted of those behind
   abbrev wants : List LogRow → Bool
-  wants = (cut e [] passed (due_without e req)).wants
+  wants = (cut e [] passed (due_beside e req)).wants
 
   stands : StandsAsked (IsToCome None at []) (λ (r : ReqId). false) at [] (record { checks = ended req t.checks; run = e.ran })
   stands =
-      stands_wanting (IsToCome None e []) (λ (r : ReqId). false) (cut e [] passed (due_without e req)) [] (record { checks = ended req t.checks; run = e.ran }) wants e.ran
-      (gone_stands (IsToCome None e []) (λ (r : ReqId). false) (λ (r : ReqId). false) e [] (record { checks = t.checks; run = e.ran }) stands_before req (λ r apart none. refl) passed (due_without e req) same off has undue to_go.unnoted)
+      stands_wanting (IsToCome None e []) (λ (r : ReqId). false) (cut e [] passed (due_beside e req)) [] (record { checks = ended req t.checks; run = e.ran }) wants e.ran
+      (gone_stands (IsToCome None e []) (λ (r : ReqId). false) (λ (r : ReqId). false) e [] (record { checks = t.checks; run = e.ran }) stands_before req (λ r apart none. refl) passed (due_beside e req) same off has undue to_go.unnoted)
     where
       undue : (x : Asked) → request_of log req ≡ Some x → due_prompt log x ≡ None
       undue x found_ =
@@ -262,11 +261,18 @@ module _ (e : InEvent) (hand : List ReqId) (t : Tables) (queue : Queue) (blame :
   -- the coordinator goes on working
   work : IsAtWork at [] u
   work =
-      work_wanting None e [] passed (due_without e req) u (λ (r : ReqId). false) wants e.ran w.own w.worker w.numbered w.sole (debts_gone e req passed same off to_go.on w.debts) stands ties asking calm
+      work_wanting None e [] passed (due_beside e req) u (λ (r : ReqId). false) wants e.ran w.own w.worker w.numbered w.sole (debts_beside e req passed same off to_go.on w.debts) stands ties asking calm
 
-  loose : IsLoose (gone_on e req) []
-  loose =
-      loose_wanting (cut e [] passed (due_without e req)) wants e.ran (loose_gone e req passed same off to_go.on cut_for.loose)
+  load : is_load q.what ≡ true
+  load = ap is_load to_go.what
+
+  owed : IsOwed (gone_on e req) []
+  owed =
+      owed_wanting (cut e [] passed (due_beside e req)) wants e.ran (owed_beside e req passed same off to_go.on numbered q to_go.at load cut_for.passing.owed)
+
+  loose : IsLoose e [] → IsLoose (gone_on e req) []
+  loose is =
+      loose_wanting (cut e [] passed (due_beside e req)) wants e.ran (loose_beside e req passed same off to_go.on numbered q to_go.at load is)
 
   -- ---- what waits, and what is held back
 
@@ -334,7 +340,8 @@ module _ (e : InEvent) (hand : List ReqId) (t : Tables) (queue : Queue) (blame :
         tables = refl;
         now = now;
         work = work;
-        loose = loose;
+        owed = owed;
+        loose = λ all. loose (cut_for.passing.loose (sym stood ∙ all));
         duly = log_same AreLeftDuly cut_for.passing.duly;
         queueing = queueing;
         header = cut_for.header;
@@ -433,4 +440,4 @@ module _ (e : InEvent) (hand : List ReqId) (t : Tables) (queue : Queue) (blame :
   -- ---- all of it
 
   pub load_gone : HasGoneOn (load_on e rest queue blame req nav mode address replace state) (record { event = e; loads = hand; hand = [] }) t
-  load_gone = record { make = make; begins = begins_then; settled = was_settled; cleared = was_cleared }
+  load_gone = record { make = make; begins = begins_then; loose = loose; settled = was_settled; cleared = was_cleared }

@@ -1,5 +1,6 @@
 -- A load passes its unload check in the midst of an event, where it was cut: what is known there, and what is so once it has gone on.
 -- HTML Standard, "navigate" and "checking if unloading is canceled". Who is in its check, the table of checks, where an event is cut, and the log without questions are this project's own.
+use Rattle.load_midway.specs.Owing.{due_beside}
 use Rattle.load_passed.specs.Passing.{InLoadPass, IsToMake, WasCleared, WasSettled, load_tables, passed_load}
 use Rattle.load_table.specs.Loads.{ongoing_load}
 use Rattle.log_model.specs.Checks.{due_prompt}
@@ -14,13 +15,13 @@ use Rattle.move_queue.specs.Queue.{Queue}
 use Rattle.row_facts.specs.FrameRows.Lawful.{held_at_first}
 use Rattle.row_facts.specs.Owed.Owed.{IsLoose}
 use Rattle.seen_facts.specs.LoadEnds.Standing.{is_reached}
-use Rattle.seen_laws.specs.InEvent.{InEvent, log_of, now_of}
+use Rattle.seen_laws.specs.InEvent.{InEvent, cut, log_of, now_of, running}
 use Rattle.std.specs.Prelude.{Bool, List, None, Some, [], false, true, ℕ, ◌≡◌}
 use Rattle.tab_doors.specs.declared.tables.Tables.{Tables}
 use Rattle.tab_ids.specs.declared.NavId.{NavId}
 use Rattle.tab_ids.specs.declared.ReqId.{ReqId}
 use Rattle.tab_ids.specs.declared.StateId.{StateId}
-use Rattle.tab_midway.specs.Midway.{gone_on}
+use Rattle.tab_passed.specs.Passing.{without}
 use Rattle.tab_prompts.specs.Asking.{BeginsAsked}
 use Rattle.tab_settles.specs.Held.{HasCleared}
 use Rattle.tab_settles.specs.Offs.{LateKnown}
@@ -30,7 +31,7 @@ use Rattle.unload_check.specs.Checks.{ended}
 
 -- ---- before
 
--- behind the event's cut, where nothing more was put out: a coordinator goes on; what is known of its checks; ongoing loads live on, and what was made of one is its own; whom the traversal that runs has moved was shown a document by it, and who is shown and late is so for the load that was applied last; nothing is owed that later rows could undo, and orders on their way are for what they may be
+-- behind the event's cut, where nothing more was put out: a coordinator goes on; what is known of its checks; ongoing loads live on, and what was made of one is its own; whom the traversal that runs has moved was shown a document by it, and who is shown and late is so for the load that was applied last; orders on their way are for what they may be
 pub record IsCutFor (p : InPass) (t : Tables) (queue : Queue) : Type 0 where
   pub passing : IsPassing p [] t
   pub empty : p.hand ≡ []
@@ -41,7 +42,6 @@ pub record IsCutFor (p : InPass) (t : Tables) (queue : Queue) : Type 0 where
   pub theirs : LoadsMadeOwn (now_of p.event [])
   pub moved : MovedAreShown t.running (now_of p.event [])
   pub late : LateKnown t.running (now_of p.event [])
-  pub loose : IsLoose p.event []
   pub makes : MakesServe (now_of p.event [])
   pub sound : OrdersAreSound (now_of p.event [])
 
@@ -62,7 +62,11 @@ pub record IsToGoOn (e : InEvent) (t : Tables) (req : ReqId) (q : Asked) (nav : 
 
 -- ---- after
 
--- the load, in the event cut there, with no rows more, and it not in its check any more; these requests are at hand then
+-- the event cut there, with no rows more, and the load not in its check any more
+abbrev pub gone_on : InEvent → ReqId → InEvent
+gone_on e req = running (cut e [] (without e.checking req) (due_beside e req)) e.ran
+
+-- the load in it; these requests are at hand then
 abbrev pub load_on : InEvent → List ReqId → Queue → List (StateId × ReqId) → ReqId → NavId → Mode → List ℕ → Bool → StateId → InLoadPass
 load_on e rest queue blame req nav mode address replace state =
     record {
@@ -79,9 +83,10 @@ load_on e rest queue blame req nav mode address replace state =
       noted = blame;
     }
 
--- it has gone on, and its document is to be made; what is known of the event's checks is so anew; and the tab is as it was: at rest, or up to the walk of a pass
+-- it has gone on, and its document is to be made; what is known of the event's checks is so anew; nothing is owed that later rows could undo, if that was so; and the tab is as it was: at rest, or up to the walk of a pass
 pub record HasGoneOn (l : InLoadPass) (p : InPass) (t : Tables) : Type 0 where
   pub make : IsToMake l (load_tables t (passed_load l) (ended l.req t.checks))
   pub begins : BeginsAsked l.event (ended l.req t.checks)
+  pub loose : IsLoose p.event [] → IsLoose l.event []
   pub settled : (cause : Why) → HasSettled p [] t l.queue l.noted cause → WasSettled l t.running
   pub cleared : (cause : Why) → HasCleared false p [] t l.queue l.noted cause → WasCleared l t.running cause

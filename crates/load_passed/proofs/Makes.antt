@@ -15,7 +15,6 @@ use Rattle.log_model.specs.declared.job.Task.TheVariants as tasks
 use Rattle.log_model.specs.declared.job.Why.TheVariants as whys
 use Rattle.nav_tree.specs.Tree.{is_state}
 use Rattle.row_facts.proofs.LoadRows.LoadMakes.{needs_first, ongoing_there}
-use Rattle.row_facts.proofs.Owed.Ends.{loose_owed}
 use Rattle.row_facts.specs.LoadRows.LoadMaking.{IsAloneWith, IsMakeOfLoadDue}
 use Rattle.row_facts.specs.RestRows.Moving.{AllRest}
 use Rattle.seen_facts.proofs.Hang.Parts.{state_is as state_same}
@@ -106,8 +105,8 @@ module _ (l : InLoadPass) (u : Tables) (it : IsToMake l u) where
       record {
         work = it.work;
         going = at_now (λ (x : Seen). IsGoing u.running l.loads [] x) (subst (λ (r : Option ReqId). IsGoing r l.loads [] then_) (sym run_same) (begun.going_then l it.loads l.before it.t it.p it.unbegun it.q it.starts it.state_is it.replaces));
-        owed = loose_owed l.event [] it.loose;
-        loose = λ all. it.loose;
+        owed = it.owed;
+        loose = it.loose;
         rests = at_now (λ (x : Seen). AllRest x) it.beside.rests;
         few = at_now (λ (x : Seen). length x.kept ≤ u.kept.keep) (subst (λ (k : ℕ). length s.kept ≤ k) (sym (ap (λ (x : Tables). x.kept.keep) it.tables)) it.beside.few);
         duly = it.duly;

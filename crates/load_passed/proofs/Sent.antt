@@ -4,6 +4,7 @@ use Rattle.load_passed.proofs.Makes as makes
 use Rattle.load_passed.specs.Passing.{InLoadPass, IsToMake}
 use Rattle.log_model.proofs.Refl.{nat_eq_refl}
 use Rattle.log_model.specs.Once.{loads}
+use Rattle.log_model.specs.Places.{aim_of, all_stand}
 use Rattle.log_model.specs.Seen.{Seen}
 use Rattle.log_model.specs.declared.job.Job.{Job}
 use Rattle.log_model.specs.declared.job.Task.TheVariants as tasks
@@ -11,13 +12,14 @@ use Rattle.log_model.specs.declared.job.Why.TheVariants as whys
 use Rattle.log_model.specs.declared.request.Request.{Request}
 use Rattle.log_model.specs.declared.row_kind.RowKind.TheVariants as rows
 use Rattle.log_model.specs.declared.row_kind.RowKind.{RowKind}
-use Rattle.row_facts.proofs.Owed.Ends.{loose_more, loose_owed}
-use Rattle.row_facts.proofs.Owed.Rows.{sent_lasts}
+use Rattle.row_facts.proofs.Owed.Ends.{loose_more, owed_more}
+use Rattle.row_facts.proofs.Owed.Rows.{reckoned_now, sent_lasts, sent_stays}
 use Rattle.row_facts.proofs.RestRows.Orders.{making_rests}
-use Rattle.row_facts.specs.Owed.Owed.{IsLoose}
+use Rattle.row_facts.specs.Owed.Owed.{IsLoose, IsOwed}
 use Rattle.row_facts.specs.RestRows.Moving.{AllRest}
 use Rattle.seen_facts.proofs.Coord.Kept.{IsSentHome}
 use Rattle.seen_facts.proofs.Coord.Unread.{next}
+use Rattle.seen_facts.proofs.Walk.Turns.{make_aim}
 use Rattle.seen_laws.specs.InEvent.{now_of}
 use Rattle.std.proofs.Common.{List, Option, Some, [], ap, false, length, refl, subst, sym, true, ℕ, ◌+◌, ◌==◌, ◌∙◌, ◌∷◌, ◌≡◌, ◌≤◌}
 use Rattle.tab_doors.proofs.PassedOn.{sent_goes, sent_now}
@@ -35,6 +37,7 @@ use Rattle.tab_ids.specs.declared.ReqId.{ReqId}
 use Rattle.tab_ids.specs.declared.StateId.{StateId}
 use Rattle.tab_moves.specs.Making.{home_in}
 use Rattle.tab_passes.proofs.PassedOn.{lives_first, sent_duly}
+use Rattle.tab_passes.proofs.Passings.{all_passed}
 use Rattle.tab_passes.specs.Passing.{IsPassing}
 use Rattle.unasked.proofs.Passings.{begun_as}
 
@@ -81,9 +84,19 @@ module _ (l : InLoadPass) (u : Tables) (it : IsToMake l u) (proc : ProcId) (home
   going_fin =
       sent_going u.running l.loads [] m l.event.event l.event.actor passing_now.going order l.loads [] tab_fin (making_lasting m l.event.event l.event.actor passing_now.going.lasting order l.nav l.state l.address false refl (makes.absent l u it)) tt
 
-  pub loose_fin : IsLoose l.event last
-  loose_fin =
-      subst (λ (o : List RowKind). IsLoose l.event o) (sym last_is) (loose_more l.event [] (rows.Sent order) (sent_goes l.event [] order refl).read it.loose (sent_lasts m l.event.event l.event.actor order) (λ end lasts. refl))
+  pub loose_fin : IsLoose l.event [] → IsLoose l.event last
+  loose_fin loose =
+      subst (λ (o : List RowKind). IsLoose l.event o) (sym last_is) (loose_more l.event [] (rows.Sent order) (sent_goes l.event [] order refl).read loose (sent_lasts m l.event.event l.event.actor order) (λ end lasts. refl))
+
+  owed_fin : IsOwed l.event last
+  owed_fin =
+      subst (λ (o : List RowKind). IsOwed l.event o) (sym last_is) (owed_more l.event [] (rows.Sent order) (sent_goes l.event [] order refl).read it.owed (sent_stays m l.event.event l.event.actor order (all_passed (record { event = l.event; loads = l.loads; hand = [] }) [] u passing_now) (reckoned_now l.event []) refl) (λ end stays. refl))
+
+  -- all stand as before
+  stood : all_stand (now_of l.event last) (aim_of (now_of l.event last)) ≡ all_stand m (aim_of m)
+  stood =
+      ap (λ (x : Seen). all_stand x (aim_of x)) is_fin
+      ∙ ap (λ (k : ℕ). all_stand fin k) (make_aim m l.event.event l.event.actor order l.nav l.state l.address false refl)
 
   sent_home : IsSentHome m order
   sent_home = record { home = λ d found. absurd (makes.none_there l u it d found); lives = lives_first u.running l.loads [] m passing_now.going.tab order refl }
@@ -93,8 +106,8 @@ module _ (l : InLoadPass) (u : Tables) (it : IsToMake l u) (proc : ProcId) (home
       record {
         work = work_y;
         going = subst (λ (x : Seen). IsGoing y.running l.loads [] x) (sym is_fin) (subst (λ (r : Option ReqId). IsGoing r l.loads [] fin) (sym keeps_y.running) going_fin);
-        owed = loose_owed l.event last loose_fin;
-        loose = λ all_. loose_fin;
+        owed = owed_fin;
+        loose = λ all_. loose_fin (it.loose (sym stood ∙ all_));
         rests = subst (λ (x : Seen). AllRest x) (sym is_fin) (making_rests m l.event.event l.event.actor [] passing_now.rests order sent_home l.nav l.state l.address false refl (makes.none_there l u it));
         duly = sent_duly l.event [] order last last_is (makes.absent l u it) passing_now.duly;
         few = subst (λ (k : ℕ). length (now_of l.event last).kept ≤ k) (sym keeps_y.keep) (subst (λ (k : List DocId). length k ≤ u.kept.keep) (sym (ap (λ (x : Seen). x.kept) is_fin)) passing_now.few);

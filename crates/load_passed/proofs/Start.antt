@@ -268,7 +268,8 @@ module _ (was : ReqId → Bool) (e : InEvent) (t : Tables) (queue : Queue) (blam
         tables = refl;
         now = now;
         work = work;
-        loose = loose;
+        owed = loose_owed e [] loose;
+        loose = λ all. loose;
         duly = own.lasts.duly;
         queueing = queueing;
         header = header;

@@ -14,7 +14,7 @@ use Rattle.load_table.specs.Loads.{begun, cancelled, ongoing_load}
 use Rattle.load_table.specs.declared.load.Load.{Load}
 use Rattle.load_table.specs.declared.phase.Phase.TheVariants as phases
 use Rattle.log_model.specs.Equal.{has_req}
-use Rattle.log_model.specs.Places.{is_ongoing_load}
+use Rattle.log_model.specs.Places.{aim_of, all_stand, is_ongoing_load}
 use Rattle.log_model.specs.Seen.{Asked, Seen, request_of}
 use Rattle.log_model.specs.declared.job.Job.{Job}
 use Rattle.log_model.specs.declared.job.Task.TheVariants as tasks
@@ -25,7 +25,7 @@ use Rattle.log_model.specs.declared.row_kind.RowKind.TheVariants as rows
 use Rattle.log_model.specs.declared.row_kind.RowKind.{RowKind}
 use Rattle.move_queue.specs.Queue.{Queue}
 use Rattle.row_facts.specs.FrameRows.Lawful.{held_at_first}
-use Rattle.row_facts.specs.Owed.Owed.{IsLoose}
+use Rattle.row_facts.specs.Owed.Owed.{IsLoose, IsOwed}
 use Rattle.seen_facts.specs.LoadEnds.Standing.{LoadsStand, is_reached}
 use Rattle.seen_laws.specs.InEvent.{InEvent, log_of, now_of}
 use Rattle.std.specs.Prelude.{Option, Bool, List, None, Some, [], false, length, true, ℕ, ◌∷◌, ◌≡◌, ◌≤◌}
@@ -113,7 +113,7 @@ pub record GoesOnBeside (l : InLoadPass) (t : Tables) : Type 0 where
 
 -- ---- it has passed, and has no document yet
 
--- as the event stands the load has passed: a coordinator is at work with it in the table, in a log without questions that is as before but for that the load has begun; it wasn't held back, nothing is owed, and what waits is known
+-- as the event stands the load has passed: a coordinator is at work with it in the table, in a log without questions that is as before but for that the load has begun; it wasn't held back, what is owed is paid whatever orders come, and by any rows where all stand, and what waits is known
 pub record IsToMake (l : InLoadPass) (u : Tables) : Type 0 where
   pub loads : List ReqId
   pub t : Tables
@@ -128,7 +128,8 @@ pub record IsToMake (l : InLoadPass) (u : Tables) : Type 0 where
   pub tables : u ≡ load_tables t (passed_load l) u.checks
   pub now : now_of l.event [] ≡ with_begun l.before l.req q
   pub work : IsAtWork l.event [] u
-  pub loose : IsLoose l.event []
+  pub owed : IsOwed l.event []
+  pub loose : all_stand (now_of l.event []) (aim_of (now_of l.event [])) ≡ true → IsLoose l.event []
   pub duly : AreLeftDuly (log_of l.event [])
   pub queueing : IsQueueing (record { event = l.event; loads = l.loads; hand = [] }) [] u l.queue
   pub header : u.kept.keep ≡ l.event.header.keep
@@ -172,7 +173,7 @@ pub record MakesDocument (l : InLoadPass) (out : List RowKind) : Type 0 where
   pub why : job.why ≡ whys.Req l.req
   pub is : out ≡ rows.Sent job ∷ []
 
--- the load is past its check, and its document is to be made: nothing is owed, and orders on their way are for what they may be, as they may be for the load; a tab that was at rest is so, a pass may follow where one might, and one that went by up to its walk did; behind an event's own row one may follow for the load
+-- the load is past its check, and its document is to be made: nothing is owed that later rows could undo, if that was so, and orders on their way are for what they may be, as they may be for the load; a tab that was at rest is so, a pass may follow where one might, and one that went by up to its walk did; behind an event's own row one may follow for the load
 pub record IsPastLoad (l : InLoadPass) (u : Tables) (out : List RowKind) : Type 0 where
   pub makes_it : MakesDocument l out
   pub own : MayCause (now_of l.event out) (whys.Req l.req)
@@ -182,6 +183,6 @@ pub record IsPastLoad (l : InLoadPass) (u : Tables) (out : List RowKind) : Type 
   pub cleared : (cause : Why) → WasCleared l u.running cause → HasCleared false (record { event = l.event; loads = l.loads; hand = [] }) out u l.queue l.noted cause
   pub taken : WasTaken l u.running → IsReady (record { event = l.event; loads = l.loads; hand = [] }) out u l.queue l.noted (whys.Req l.req)
   pub put : HasPut l.event [] out
-  pub loose : IsLoose l.event out
+  pub loose : IsLoose l.event [] → IsLoose l.event out
   pub makes : MakesServe (now_of l.event out)
   pub sound : OrdersAreSound (now_of l.event out)
