@@ -1,3 +1,5 @@
 pub mod Entering
 pub mod Begins
 pub mod Works
+pub mod Silent
+pub mod Ready

@@ -79,7 +79,7 @@ module _ (l : InLoad) (t : Tables) (due : IsToBegin l t) (jobs : List Job) (are 
       cut.begun_states e [] l.req None jobs
       ∙ (let more : states_after log (rows.Started l.req None) ≡ log.states + 1 = rw (may.there l t due) refl in more)
 
-  states_now : s.states ≡ log.states
+  pub states_now : (now_of l.event []).states ≡ (log_of l.event []).states
   states_now = ap (λ (x : Seen). x.states) (now_is e [])
 
   pub jobs_more : behind.jobs ≡ (now_of l.event []).jobs + length jobs
