@@ -185,7 +185,7 @@ module _ (l : InLoad) (t : Tables) (due : IsToBegin l t) (jobs : List Job) (are 
     where
       next : NoStepChecks entered (after x (row_of e (rows.Sent job)))
       next r q at on =
-          let was = was_asked is_step_under_way x.requests (after x (row_of e (rows.Sent job))).requests (sent_reads is_step_under_way (record { moves = λ q activated moved. refl; asks = λ q asks. refl; fragments = λ q doc. refl; misses = λ q is. refl }) x job) r q at in
+          let was = was_asked is_step_under_way x.requests (after x (row_of e (rows.Sent job))).requests (sent_reads is_step_under_way (record { moves = λ q activated moved. refl; asks = λ q asks. refl; fragments = λ q doc. refl; misses = λ q is. refl }) x job job.task x.requests) r q at in
           sym was.2 ∙ none r was.0 was.1 on
 
   free_then : MayDiscardIn false e → MayDiscardIn false then_
