@@ -3,3 +3,4 @@ pub mod Begins
 pub mod Works
 pub mod Silent
 pub mod Ready
+pub mod Known
