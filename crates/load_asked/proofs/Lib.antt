@@ -4,3 +4,4 @@ pub mod Works
 pub mod Silent
 pub mod Ready
 pub mod Known
+pub mod Calls
