@@ -16,4 +16,4 @@ enter_check-requires g c =
 
 pub returns-clause-asked : goal.returns-clause-asked
 returns-clause-asked g c =
-    has_asked g.l c.args.tables.now c.requires.1.1.1.1.1.1.0 _ c.requires.0 _ c.requires.1.1.0 _ c.requires.1.1.1.0 _ c.requires.1.1.1.1.0 _ c.requires.1.1.1.1.1.0 _ c.requires.1.1.1.1.1.1.1 _ (c.as_slice.ensures.value ∙ c.in_ok-questions.ensures) _ c.requires.1.0 _ c.in_ok-begin_asking.ensures.out _ c.in_ok-begin_asking.ensures.tables _ c.replaces-replace.ensures _ c.in_ok-own.ensures _ c.enter_check.ensures.tables
+    has_asked g.l c.args.tables.now c.requires.1.1.1.1.1.1.0 _ c.requires.0 _ c.requires.1.1.0 _ c.requires.1.1.1.0 _ c.requires.1.1.1.1.0 _ c.requires.1.1.1.1.1.0 _ c.requires.1.1.1.1.1.1.1 _ (c.as_slice.ensures.value ∙ c.in_ok-questions.ensures) _ c.requires.1.0 _ c.in_ok-begin_asking.ensures.out _ c.in_ok-begin_asking.ensures.tables _ c.replaces-replace.ensures _ c.in_ok-own.ensures _ c.in_ok-enter_check.ensures.tables
