@@ -4,7 +4,6 @@ use Rattle.asking_facts.specs.Asking.{AreSome, BeginsToAsk, IsLoadOf, MayBeginTo
 use Rattle.checking_facts.specs.Checks.{MayEnter, NoOtherUnderWay}
 use Rattle.checking_facts.specs.States.{IsNextState}
 use Rattle.load_asked.specs.Beginning.{IsToBegin, due_of}
-use Rattle.log_model.proofs.Refl.{nat_eq_refl}
 use Rattle.log_model.specs.Once.{has_no_earlier_load, loads}
 use Rattle.log_model.specs.Orders.{Question}
 use Rattle.log_model.specs.Places.{is_ongoing_load, is_traversal}
@@ -30,7 +29,6 @@ use Rattle.tab_doors.specs.Working.{IsAtWork}
 use Rattle.tab_doors.specs.declared.tables.Tables.{Tables}
 use Rattle.tab_drops.proofs.Loads.{load_held}
 use Rattle.tab_facts.specs.TabWhole.Tab.{IsTab}
-use Rattle.tab_ids.specs.declared.NavId.{NavId}
 use Rattle.tab_ids.specs.declared.ReqId.{ReqId}
 use Rattle.tab_ids.specs.declared.Step.{Step}
 use Rattle.tab_loads.proofs.Firsts as firsts
@@ -39,7 +37,6 @@ use Rattle.tab_loads.specs.Asking.{InLoad}
 use Rattle.tab_stands.specs.PassedOn.{IsLoadOf as IsOngoingOf}
 use Rattle.unasked_dues.proofs.Ends.{earlier_same}
 use Rattle.unasked_dues.proofs.Sole.{HasBegun, sole_more}
-use Rattle.unasked_dues.specs.Reading.{BeginSole}
 
 -- somebody is asked where there is a first question
 some_first : (questions : List Question) → is_some (slice_get questions 0) ≡ true → AreSome questions

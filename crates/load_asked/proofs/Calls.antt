@@ -23,11 +23,11 @@ use Rattle.log_model.specs.declared.request.Request.TheVariants as requests
 use Rattle.log_model.specs.declared.row_kind.RowKind.{RowKind}
 use Rattle.seen_facts.specs.Each.Items.{NoneDied}
 use Rattle.seen_facts.specs.Hang.Hanging.{Hangs}
-use Rattle.seen_facts.specs.Home.Homes.{AreHomed, EachWake, IsHomed}
+use Rattle.seen_facts.specs.Home.Homes.{EachWake, IsHomed}
 use Rattle.seen_laws.proofs.Cuts.{log_cut}
 use Rattle.seen_laws.specs.InEvent.{InEvent, log_of, now_of}
 use Rattle.slot_facts.specs.Slots.{AreSlots}
-use Rattle.std.proofs.Common.{Bool, List, None, Option, Some, [], ap, not, refl, subst, sym, true, ℕ, ◌&&◌, ◌+◌, ◌<◌, ◌∙◌, ◌∷◌, ◌≡◌}
+use Rattle.std.proofs.Common.{Bool, List, None, Option, [], ap, not, refl, subst, sym, true, ℕ, ◌&&◌, ◌+◌, ◌<◌, ◌∙◌, ◌∷◌, ◌≡◌}
 use Rattle.std.proofs.lemmas.Bool.{and_parts}
 use Rattle.std.specs.List.{list_all}
 use Rattle.tab_asked.proofs.There.{due_there}

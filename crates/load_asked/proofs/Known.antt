@@ -6,16 +6,15 @@ use Rattle.asking_facts.proofs.NotesOver.{begun_notes}
 use Rattle.asking_facts.proofs.Sent.{when_asked}
 use Rattle.asking_facts.specs.Asking.{AreQuestions, begun_asking, checks_begun, new_asking}
 use Rattle.asking_facts.specs.Known.{AskingKnown}
-use Rattle.asking_facts.specs.Prompting.{NoneAnsweredEarly, NotesWanted}
+use Rattle.asking_facts.specs.Prompting.{NotesWanted}
 use Rattle.checking_facts.proofs.Grown.{req_same}
 use Rattle.load_asked.proofs.Begins as may
-use Rattle.load_asked.proofs.Ready as ready
 use Rattle.load_asked.proofs.Works as works
 use Rattle.load_asked.specs.Beginning.{IsToBegin, due_of, then_begun, what_of}
 use Rattle.log_model.specs.After.{after}
 use Rattle.log_model.specs.Equal.{holds}
 use Rattle.log_model.specs.Places.{aim_of, is_below_known_lost, is_placed, way_to}
-use Rattle.log_model.specs.Seen.{Asked, Asking, Place, Seen, place_of, request_of}
+use Rattle.log_model.specs.Seen.{Asked, Place, Seen, place_of, request_of}
 use Rattle.log_model.specs.Soundness.{IsSound}
 use Rattle.log_model.specs.declared.job.Job.{Job}
 use Rattle.log_model.specs.declared.row_kind.RowKind.TheVariants as rows
@@ -25,7 +24,7 @@ use Rattle.seen_facts.specs.Home.Homes.{AreHomed}
 use Rattle.seen_facts.specs.LoadEnds.Standing.{is_reached}
 use Rattle.seen_laws.proofs.Cuts.{log_cut}
 use Rattle.seen_laws.specs.InEvent.{InEvent, log_of, now_of, row_of}
-use Rattle.std.proofs.Common.{Bool, List, None, Option, Some, [], ap, false, inl, inr, map, not, refl, subst, sym, true, ◌&&◌, ◌==◌, ◌∙◌, ◌∷◌, ◌≡◌, ◌⊎◌}
+use Rattle.std.proofs.Common.{Bool, List, None, Option, Some, [], ap, false, inr, map, not, refl, subst, sym, true, ◌&&◌, ◌==◌, ◌∙◌, ◌∷◌, ◌≡◌, ◌⊎◌}
 use Rattle.std.specs.List.{list_all}
 use Rattle.std.specs.Option.{option_map_or}
 use Rattle.std.specs.Prelude.{option_map}
@@ -40,7 +39,7 @@ use Rattle.tab_prompts.proofs.Waits.{waited_before}
 use Rattle.tab_prompts.specs.Asking.{BeginsAsked, WasOpen, are_unheard, told_all}
 use Rattle.tab_prompts.specs.Prompts.{is_open, is_waiting}
 use Rattle.unload_check.proofs.Stays.{others_begun}
-use Rattle.unload_check.specs.Checks.{OpenCheck, check_of, opened, outcome_of}
+use Rattle.unload_check.specs.Checks.{OpenCheck, check_of, outcome_of}
 
 some_same : {A : Type 0} {a b : A} → (let o : Option A = Some a in o) ≡ Some b → a ≡ b
 some_same is = cc

@@ -8,15 +8,13 @@ use Rattle.leave_facts.specs.Leaving.{IsFromAbove, IsLeaver}
 use Rattle.log_model.specs.declared.row_kind.RowKind.{RowKind}
 use Rattle.move_queue.specs.declared.queue_step.QueueStep.{QueueStep}
 use Rattle.row_facts.specs.Left.Left.{WereShown}
-use Rattle.row_facts.specs.WalkRows.Since.{AwakeSince, IsVisitedInNeed, MovesVisited, WasAwake}
+use Rattle.row_facts.specs.WalkRows.Since.{IsVisitedInNeed, WasAwake}
 use Rattle.seen_facts.specs.LoadEnds.Standing.{is_reached}
 use Rattle.seen_facts.specs.Mover.Movers.{IsMovedBy}
 use Rattle.seen_laws.specs.InEvent.{InEvent, cut}
 use Rattle.std.proofs.Common.{Bool, List, None, Option, Some, [], arith, inl, inr, refl, true, ℕ, ◌&&◌, ◌+◌, ◌≡◌, ◌≤◌, ◌⊎◌}
-use Rattle.std.specs.Prelude.{◌<◌, length}
 use Rattle.tab_drops.specs.Dropping.{IsBare, IsUnsettled}
 use Rattle.tab_facts.proofs.Calm.Sames.{calm_same, here_same, rooted_kept}
-use Rattle.tab_facts.specs.Calm.Calm.{AreRooted, IsCalmYet, UnmovedAreHere}
 use Rattle.tab_facts.specs.Last.Lasting.{AreLasting}
 use Rattle.tab_facts.specs.TabGoing.Going.{AreCounted, AreHeldUp, AreSteps, IsGoing}
 use Rattle.tab_ids.specs.declared.DocId.{DocId}
@@ -25,8 +23,8 @@ use Rattle.tab_ids.specs.declared.ReqId.{ReqId}
 use Rattle.tab_ids.specs.declared.StateId.{StateId}
 use Rattle.tab_one_pass.proofs.Lives.{live_then}
 use Rattle.tab_settles.proofs.Lates.{off_still}
-use Rattle.tab_settles.specs.Offs.{AreLateKnown, LateKnown}
-use Rattle.tab_settles.specs.PassedOn.{AreBlamed, AreUnheld, HaveJoined, IsOpen, IsStray, LoadsLive, LoadsMadeOwn, MayCause, MayServe, MayStand, ParentsShown, TakersServe, show_why}
+use Rattle.tab_settles.specs.Offs.{LateKnown}
+use Rattle.tab_settles.specs.PassedOn.{AreBlamed, HaveJoined, IsOpen, LoadsLive, LoadsMadeOwn, MayServe, MayStand, show_why}
 use Rattle.tab_settles.specs.Settling.{IsCalmBefore}
 use Rattle.tab_stands.specs.PassedOn.{HasQueue, IsLoadOf}
 use Rattle.tab_sweeps.specs.Sweeping.{IsBlamed, IsOverNav, MayLeaveNav, NeverBegins}

@@ -6,7 +6,6 @@ use Rattle.load_asked.proofs.Begins as may
 use Rattle.load_asked.proofs.Entering.{asking_entered}
 use Rattle.load_asked.specs.Beginning.{IsToBegin, due_of, own_load, then_begun, what_of}
 use Rattle.load_table.specs.Loads.{begun}
-use Rattle.load_table.specs.declared.load.Load.{Load}
 use Rattle.log_model.specs.After.{states_after}
 use Rattle.log_model.specs.AfterRequests.{load_replaces}
 use Rattle.log_model.specs.Orders.{Question}
@@ -17,12 +16,11 @@ use Rattle.row_facts.specs.Owed.Owed.{IsLoose, IsOwed}
 use Rattle.seen_laws.proofs.InEvents.{now_is}
 use Rattle.seen_laws.specs.InEvent.{InEvent, log_of, now_of}
 use Rattle.seen_laws.specs.Unasked.{unasked}
-use Rattle.std.proofs.Common.{Bool, List, None, Option, Some, [], ap, arith, false, length, refl, subst, suc, sym, true, ℕ, ◌+◌, ◌∙◌, ◌∷◌, ◌≡◌, ◌≤◌}
+use Rattle.std.proofs.Common.{Bool, List, None, [], ap, arith, length, refl, suc, sym, true, ℕ, ◌+◌, ◌∙◌, ◌∷◌, ◌≡◌}
 use Rattle.tab_asked.proofs.Works.{entered_on, entered_same}
 use Rattle.tab_asked.specs.Asked.{entered_by}
 use Rattle.tab_asks.specs.Asks.{HasBegunCheck}
 use Rattle.tab_cuts.proofs.Begun as cut
-use Rattle.tab_cuts.proofs.Counted.{counted}
 use Rattle.tab_cuts.proofs.Owed.{now_cut}
 use Rattle.tab_cuts.proofs.Silent.{begun_silent}
 use Rattle.tab_doors.specs.AskingLoads.{TiesAsking}

@@ -1,6 +1,6 @@
 use Rattle.load_asked.proofs.Calls.{ask_now, given_now, has_asked, room_now}
 use Rattle.load_asked.proofs.beginning.ask_for_load.Goals as goal
-use Rattle.std.proofs.Common.{sym, ◌∙◌}
+use Rattle.std.proofs.Common.{◌∙◌}
 
 pub replaces-replace-requires : goal.replaces-replace-requires
 replaces-replace-requires g c =
