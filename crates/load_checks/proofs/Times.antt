@@ -30,7 +30,7 @@ times_out nav (first ∷ loads) each load at r =
         rw is (ap (λ (l : List Load). times r (load.req ∷ reqs_of l)) none ∙ ap (λ (x : Load). times r (x.req ∷ reqs_of loads)) (sym one))
     by_nav false is here rest =
         let more : times r (load.req ∷ reqs_of (cancelled nav loads)) ≡ times r (reqs_of loads) = rest here r in
-        rw is (swap (times r (load.req ∷ [])) (times r (first.req ∷ [])) more)
+        rw is (swap more)
       where
-        swap : (a b : _) → times r (load.req ∷ reqs_of (cancelled nav loads)) ≡ times r (reqs_of loads) → times r (load.req ∷ first.req ∷ reqs_of (cancelled nav loads)) ≡ times r (first.req ∷ reqs_of loads)
-        swap a b more = omega (arith, more)
+        swap : times r (load.req ∷ reqs_of (cancelled nav loads)) ≡ times r (reqs_of loads) → times r (load.req ∷ first.req ∷ reqs_of (cancelled nav loads)) ≡ times r (first.req ∷ reqs_of loads)
+        swap more = omega (arith, more)

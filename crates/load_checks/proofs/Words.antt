@@ -10,7 +10,8 @@ use Rattle.log_model.specs.Places.{has_passed, has_passed_with, is_gone}
 use Rattle.log_model.specs.Seen.{Asked, Asking, Seen}
 use Rattle.log_model.specs.declared.handler.Verdict.TheVariants as verdicts
 use Rattle.log_model.specs.declared.handler.Verdict.{Verdict}
-use Rattle.std.proofs.Common.{Bool, List, None, Option, ap, filter, map, not, subst, sym, true, ◌∙◌, ◌≡◌}
+use Rattle.seen_facts.proofs.Coord.Held.{fun_ext}
+use Rattle.std.proofs.Common.{Bool, List, None, Option, ap, false, filter, map, not, subst, sym, true, ◌∙◌, ◌≡◌}
 use Rattle.std.specs.Prelude.{fold, if◌then◌else◌}
 use Rattle.tab_ids.specs.declared.DocId.{DocId}
 use Rattle.tab_ids.specs.declared.ReqId.{ReqId}

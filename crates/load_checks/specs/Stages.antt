@@ -1,6 +1,5 @@
 -- Where an event was cut, between the two parts of a pass or at rest, the unload checks of loads go on: what is known there, and what is so once a load has passed.
 -- HTML Standard, "checking if unloading is canceled" and "navigate". Where an event is cut, and the table of checks, are this project's own.
-use Rattle.asking_facts.specs.Known.{AskingKnown}
 use Rattle.load_prompts.specs.Prompting.{MayGoOn}
 use Rattle.load_table.specs.Loads.{cancelled, ongoing_load}
 use Rattle.load_table.specs.declared.load.Load.{Load}
@@ -95,6 +94,11 @@ pub record GoesAt (t : Tables) (nav : NavId) : Type 0 where
   pub its : ongoing_load nav t.asking ≡ Some load
   pub goes : outcome_at load.req t.checks ≡ Some checks.Go
 
+-- it, and the load whose turn it is
+pub record InLoadTurn : Type 0 where
+  pub stage : InStage
+  pub load : Load
+
 -- whether what the request asks for takes the place of the given entry, as the log has it
 abbrev pub mode_of : Request → Mode
 mode_of (requests.Load nav mode address) = mode
@@ -107,12 +111,11 @@ mode_in s req = option_map_or (λ (q : Asked). mode_of q.what) (request_of s req
 abbrev pub stage_on : InStage → InEvent → List ReqId → InStage
 stage_on w at loads = record w { event = at; loads = loads }
 
--- it has passed: the event goes on behind what was put out, and was cut there, where all is as it was; of the loads in their checks it alone is none any more; nothing is owed that later rows could undo, if that was so; questions, prompts and answers are known, if they were; and what follows is as it is wanted there, if with what was put out it is as it was wanted
+-- it has passed: the event goes on behind what was put out, and was cut there, where all is as it was; of the loads in their checks it alone is none any more; nothing is owed that later rows could undo, if that was so; and what follows is as it is wanted there, if with what was put out it is as it was wanted
 pub record HasLetPass (w : InStage) (nav : NavId) (t u : Tables) (out : List RowKind) : Type 0 where
   pub at : InEvent
   pub goes : GoesOn w.event out at
   pub cut : IsCutAt (stage_on w at (reqs_of u.asking)) u
   pub asking : u.asking ≡ cancelled nav t.asking
   pub loose : IsLoose w.event [] → IsLoose at []
-  pub known : AskingKnown (log_of w.event []) → AskingKnown (log_of at [])
   pub wanted : (more : List RowKind) → EndAsWanted w.event (out ++ more) → EndAsWanted at more

@@ -44,6 +44,8 @@ pub fn pass_load(
     ensures checks { OnOk result (tables.new.checks ≡ ended req tables.old.checks) }
     ensures asking { OnOk result (tables.new.asking ≡ cancelled nav tables.old.asking) }
     ensures others { OnOk result (KeepsOthers nav tables.old.loads tables.new.loads) }
+    ensures running { OnOk result (tables.new.running ≡ tables.old.running) }
+    ensures goal { OnOk result (tables.new.goal ≡ tables.old.goal) }
 {
     let own = address.copy()?;
     let load = Load {

@@ -20,4 +20,6 @@ returns g c =
       checks = checks_now g.l _ _ _ _ _ c.requires.1.1.0 _ _ _ c.in_ok-own.ensures c.requires.1.1.1 c.in_ok-begin_passed.ensures.tables _ c.in_ok-make_load.ensures.kept;
       asking = c.in_ok-make_load.ensures.asking ∙ ap (λ (x : Tables). x.asking) c.in_ok-begin_passed.ensures.tables;
       others = λ other apart. c.in_ok-make_load.ensures.others other apart ∙ ap (λ (x : Tables). ongoing_load other x.loads) c.in_ok-begin_passed.ensures.tables ∙ others_begun _ _ other apart;
+      goal = c.in_ok-make_load.ensures.kept.goal ∙ ap (λ (x : Tables). x.goal) c.in_ok-begin_passed.ensures.tables;
+      running = c.in_ok-make_load.ensures.kept.running ∙ ap (λ (x : Tables). x.running) c.in_ok-begin_passed.ensures.tables;
     }
