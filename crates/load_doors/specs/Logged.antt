@@ -8,7 +8,7 @@ use Rattle.log_model.specs.After.{after}
 use Rattle.log_model.specs.Seen.{Seen}
 use Rattle.seen_laws.specs.InEvent.{InEvent, OwesNothing, log_of, now_of, row_of}
 use Rattle.seen_laws.specs.Unasked.{unasked}
-use Rattle.std.specs.Prelude.{List, [], true, ◌≡◌}
+use Rattle.std.specs.Prelude.{List, [], ◌≡◌}
 use Rattle.tab_ids.specs.declared.ReqId.{ReqId}
 
 -- what the log would have come to as the event began had nobody been asked

@@ -8,6 +8,7 @@ ghost use Rattle.log_model.specs.declared.row_kind.RowKind.TheVariants as rows;
 ghost use Rattle.log_model.specs.Seen.{desk_of};
 ghost use Rattle.nav_tree.specs.Tree.{is_state};
 ghost use Rattle.seen_laws.specs.InEvent.{InEvent, now_of};
+ghost use Rattle.load_table.specs.Loads.{KeepsOthers};
 ghost use Rattle.tab_doors.specs.Keeping.{IsUnmadeLoad};
 ghost use Rattle.tab_doors.specs.Look.{sight, sight_in};
 ghost use Rattle.tab_doors.specs.Orders.{next_order};
@@ -41,6 +42,8 @@ pub fn make_load(
     ensures work { OnOk result (IsAtWork e out.new tables.new) }
     ensures out { OnOk result (out.new ≡ out.old ++ rows.Sent (next_order (now_of e out.old).jobs proc (record { 0 = tables.old.documents + 1 }) why (tasks.Populate nav state address false)) ∷ []) }
     ensures kept { OnOk result (KeepsStore tables.old tables.new) }
+    ensures asking { OnOk result (tables.new.asking ≡ tables.old.asking) }
+    ensures others { OnOk result (KeepsOthers nav tables.old.loads tables.new.loads) }
 {
     let task = Task::Populate {
         nav,

@@ -1,6 +1,7 @@
 //! A load that has passed its unload check is ongoing, and its document is to be made.
 ghost use Rattle.std.specs.Prelude.{◌≡◌, [], OnOk};
 ghost use Rattle.load_passed.specs.Passing.{InLoadPass, IsPastLoad, IsToMake, load_tables, passed_load};
+ghost use Rattle.load_table.specs.Loads.{KeepsOthers, cancelled};
 ghost use Rattle.load_table.specs.declared.phase.Phase.TheVariants as phases;
 ghost use Rattle.unload_check.specs.Checks.{ended};
 
@@ -41,6 +42,10 @@ pub fn pass_load(
     requires passes { IsToMake l (load_tables tables.old (passed_load l) (ended l.req tables.old.checks)) }
     ensures past { OnOk result (IsPastLoad l tables.new out.new) }
     ensures checks { OnOk result (tables.new.checks ≡ ended req tables.old.checks) }
+    ensures asking { OnOk result (tables.new.asking ≡ cancelled nav tables.old.asking) }
+    ensures others { OnOk result (KeepsOthers nav tables.old.loads tables.new.loads) }
+    ensures running { OnOk result (tables.new.running ≡ tables.old.running) }
+    ensures goal { OnOk result (tables.new.goal ≡ tables.old.goal) }
 {
     let own = address.copy()?;
     let load = Load {

@@ -1,0 +1,4 @@
+pub mod Times
+pub mod Words
+pub mod Passes
+pub mod Calls
