@@ -9,7 +9,7 @@ use Rattle.checking_facts.proofs.Grown.{req_same}
 use Rattle.checking_facts.specs.Prompts.{Told, discarded_by, tell_for, told_all, told_by}
 use Rattle.load_checks.proofs.Times.{times_out}
 use Rattle.load_checks.proofs.Words.{goes_same}
-use Rattle.load_checks.specs.Stages.{AreAskingHere, HasLetPass, InStage, IsAskingHere, IsCutAt, NoneWaits, StandsIn, mode_in, mode_of, pass_in, reqs_of, stage_on}
+use Rattle.load_checks.specs.Stages.{AreAskingHere, HasLetPass, InStage, IsAskingHere, IsCutAt, NoneWaits, StandsIn, mode_in, mode_of, pass_in, passed_cut, reqs_of, stage_on}
 use Rattle.load_midway.proofs.Cut.{cut_cleared, cut_settled}
 use Rattle.load_midway.proofs.Ready.{load_gone}
 use Rattle.load_midway.specs.Midway.{HasGoneOn, IsCutFor, IsToGoOn, gone_on, load_on}
@@ -395,10 +395,19 @@ module _ (w : InStage) (t : Tables) (at : IsCutAt w t) (nav : NavId) (load : Loa
               ∙ ap (λ (l : List (ReqId × OpenCheck)). new_notes u.checks l) told_same
               ∙ new_none u.checks u.checks quiet
 
+      last_is : last ≡ passed_cut w.event load.req new t.checks
+      last_is =
+          ap (λ (o : List RowKind). prompted_cut le o u.checks []) (sym (asked.is ∙ append-nil out))
+          ∙ ap (λ (c : List (ReqId × OpenCheck)). prompted_cut le new c []) checks_is
+
       pub let_pass : HasLetPass w nav t v new
       let_pass =
           record {
+            load = load;
+            its = its;
             at = last;
+            is = last_is;
+            checks = checks_same ∙ checks_is;
             goes = goes_on;
             cut = cut_last;
             asking = asking_last ∙ ap (λ (n : NavId). cancelled n t.asking) nav_is;

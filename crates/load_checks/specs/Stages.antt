@@ -1,6 +1,7 @@
 -- Where an event was cut, between the two parts of a pass or at rest, the unload checks of loads go on: what is known there, and what is so once a load has passed.
 -- HTML Standard, "checking if unloading is canceled" and "navigate". Where an event is cut, and the table of checks, are this project's own.
-use Rattle.load_prompts.specs.Prompting.{MayGoOn}
+use Rattle.load_midway.specs.Midway.{gone_on}
+use Rattle.load_prompts.specs.Prompting.{MayGoOn, prompted_cut}
 use Rattle.load_table.specs.Loads.{cancelled, ongoing_load}
 use Rattle.load_table.specs.declared.load.Load.{Load}
 use Rattle.log_model.specs.Equal.{has_req}
@@ -30,7 +31,7 @@ use Rattle.tab_settles.specs.PassedOn.{InPass}
 use Rattle.tab_settles.specs.Settling.{HasSettled, MakesServe, OrdersAreSound}
 use Rattle.tab_stands.specs.GoingOn.{GoesOn}
 use Rattle.unasked_tab.proofs.Reordered.{AreAsOften}
-use Rattle.unload_check.specs.Checks.{outcome_at}
+use Rattle.unload_check.specs.Checks.{OpenCheck, ended, outcome_at}
 use Rattle.unload_check.specs.declared.check.Check.TheVariants as checks
 
 -- an event, the requests at hand, the queue, the requests that are noted for stray documents, and what orders are for; a pass has gone by up to its walk alone, or whole
@@ -111,9 +112,17 @@ mode_in s req = option_map_or (λ (q : Asked). mode_of q.what) (request_of s req
 abbrev pub stage_on : InStage → InEvent → List ReqId → InStage
 stage_on w at loads = record w { event = at; loads = loads }
 
--- it has passed: the event goes on behind what was put out, and was cut there, where all is as it was; of the loads in their checks it alone is none any more; nothing is owed that later rows could undo, if that was so; and what follows is as it is wanted there, if with what was put out it is as it was wanted
+-- the event cut behind the rows by which the request passed, where the table of checks was as given before
+abbrev pub passed_cut : InEvent → ReqId → List RowKind → List (ReqId × OpenCheck) → InEvent
+passed_cut e req out checks = prompted_cut (gone_on e req) out (ended req checks) []
+
+-- it has passed, and has no check in the table any more: the event goes on behind what was put out, and was cut there, where all is as it was; of the loads in their checks it alone is none any more; nothing is owed that later rows could undo, if that was so; and what follows is as it is wanted there, if with what was put out it is as it was wanted
 pub record HasLetPass (w : InStage) (nav : NavId) (t u : Tables) (out : List RowKind) : Type 0 where
+  pub load : Load
+  pub its : ongoing_load nav t.asking ≡ Some load
   pub at : InEvent
+  pub is : at ≡ passed_cut w.event load.req out t.checks
+  pub checks : u.checks ≡ ended load.req t.checks
   pub goes : GoesOn w.event out at
   pub cut : IsCutAt (stage_on w at (reqs_of u.asking)) u
   pub asking : u.asking ≡ cancelled nav t.asking
